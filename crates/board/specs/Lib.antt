@@ -1,0 +1,3 @@
+pub mod Meaning
+pub mod Block
+pub mod Region
