@@ -1,0 +1,6 @@
+pub mod Lines
+pub mod Trace
+pub mod Buffers
+pub mod Laws
+pub mod Single
+pub mod Room

@@ -1,0 +1,6 @@
+pub mod Refusals
+pub mod Sheets
+pub mod Buffer
+pub mod Program
+pub mod Seen
+pub mod Bound

@@ -1,0 +1,24 @@
+// What one step may do with the board and the two sheets.
+mod access;
+mod buffer;
+mod line;
+mod refusal;
+mod step;
+
+pub use access::Bus;
+pub use buffer::StoreBuffer;
+pub use line::Line;
+pub use line::ReadLine;
+pub use line::ReadLineDebug;
+pub use line::ReadLineLine;
+pub use line::ReadLinePartialEq;
+pub use line::WriteLine;
+pub use line::WriteLineDebug;
+pub use line::WriteLineLine;
+pub use line::WriteLinePartialEq;
+pub use line::names;
+pub use refusal::Refusal;
+pub use refusal::RefusalDebug;
+pub use refusal::RefusalPartialEq;
+pub use step::StepBus;
+pub use step::StepBusBus;
