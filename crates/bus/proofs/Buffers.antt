@@ -115,7 +115,7 @@ last-cell base i a b (x ∷ xs) (c ∷ bs) e =
     let r = last-cell base (suc i) a b xs bs t in
     (omega (arith, r .0), r .1 ∙ omega arith)
 
-length-cells : (base i : ℕ) (bs : List ℕ) → length (cells base i bs) ≡ length bs
+pub length-cells : (base i : ℕ) (bs : List ℕ) → length (cells base i bs) ≡ length bs
 length-cells base i [] = refl
 length-cells base i (b ∷ bs) = ap suc (length-cells base (suc i) bs)
 

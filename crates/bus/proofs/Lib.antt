@@ -4,3 +4,4 @@ pub mod Buffers
 pub mod Laws
 pub mod Single
 pub mod Room
+pub mod Commits

@@ -4,3 +4,5 @@ pub mod Buffer
 pub mod Program
 pub mod Seen
 pub mod Bound
+pub mod Commit
+pub mod Theorems

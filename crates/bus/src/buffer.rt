@@ -5,6 +5,8 @@ ghost use mathlib.Core.Bool.{true, cond};
 ghost use Prim.Native.Nat.{ℕ, _≤_};
 ghost use Rattle.bus.specs.Buffer.{buffered, last-set, joins, OneRun};
 
+mod commit;
+
 const CAPACITY: usize = 256;
 
 // Bytes that a step has set and that wait for it to be accepted: a run from one address on.

@@ -1,12 +1,15 @@
 // What one step may do with the board and the two sheets.
 mod access;
 mod buffer;
+mod theorems;
 mod line;
 mod refusal;
 mod step;
 
 pub use access::Bus;
 pub use buffer::StoreBuffer;
+pub use theorems::bounds_suffice;
+pub use theorems::sheets_tell_all;
 pub use line::Line;
 pub use line::ReadLine;
 pub use line::ReadLineDebug;
