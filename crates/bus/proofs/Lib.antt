@@ -5,3 +5,4 @@ pub mod Laws
 pub mod Single
 pub mod Room
 pub mod Commits
+pub mod Bytes

@@ -5,4 +5,5 @@ pub mod Program
 pub mod Seen
 pub mod Bound
 pub mod Commit
+pub mod Wide
 pub mod Theorems

@@ -1,15 +1,14 @@
 // What one step may do with the board and the two sheets.
 mod access;
 mod buffer;
-mod theorems;
 mod line;
 mod refusal;
 mod step;
+mod theorems;
+mod wide;
 
 pub use access::Bus;
 pub use buffer::StoreBuffer;
-pub use theorems::bounds_suffice;
-pub use theorems::sheets_tell_all;
 pub use line::Line;
 pub use line::ReadLine;
 pub use line::ReadLineDebug;
@@ -25,3 +24,8 @@ pub use refusal::RefusalDebug;
 pub use refusal::RefusalPartialEq;
 pub use step::StepBus;
 pub use step::StepBusBus;
+pub use theorems::bounds_suffice;
+pub use theorems::sheets_tell_all;
+pub use wide::ask_bytes;
+pub use wide::fetch_number;
+pub use wide::put_number;

@@ -4,11 +4,9 @@ ghost use Rattle.bus.specs.Theorems.{Replays, Suffices};
 // A run depends on nothing but the rights, the lines and the bytes at the listed addresses.
 pub fn sheets_tell_all<T>()
     ensures { λ _. ⌜ Replays T ⌝ }
-{
-}
+{}
 
 // A bound on fetches and set bytes leaves room on the sheets.
 pub fn bounds_suffice<T>()
     ensures { λ _. ⌜ Suffices T ⌝ }
-{
-}
+{}

@@ -29,8 +29,7 @@ loop-i-again g c =
     let inv = c .loop-i .inv in
     let x : WriteLine = record { step = c .args .step; address = above (s .base) i; byte = getD (s .bytes) i 0 } in
     let few : i < length (s .bytes) = search needs in
-    let room : u + i < length ws = search needs in
-    (
+    let room : u + i < length ws = search needs in (
       (c .store .ensures .rights ∙ inv .0 .0, stores-more (s .base) (s .bytes) _ _ _ _ _ i few (inv .0 .0) (inv .0 .1) (c .store .ensures .bytes)),
       (lines-more (s .base) (s .bytes) (c .args .step) u i _ ws few room (inv .1 .0), drop-set-lt (u + s .len) ws (u + i) x (omega arith) ∙ inv .1 .1),
     )
