@@ -6,3 +6,4 @@ pub mod Single
 pub mod Room
 pub mod Commits
 pub mod Bytes
+pub mod WideRoom

@@ -38,6 +38,10 @@ within-weaken rights n s (fetch a m) P Q h k = (k .0, λ b. within-weaken rights
 within-weaken rights n s (ask a m) P Q h k = λ w. within-weaken rights n s m P Q h (k w)
 within-weaken rights n s (put a b m) P Q h k = (k .0, k .1, within-weaken rights n (set-at s a) m P Q h (k .2))
 
+-- a program with what holds after it, and what comes then
+pub within-then : {A B : Type 0} (rights : ℕ → Right) (n : ℕ) (s : Filled) (p : Program A) (f : A → Program B) (P : ℕ → Filled → A → Type 0) (Q : ℕ → Filled → B → Type 0) → Within rights n s p P → ((m : ℕ) (u : Filled) (x : A) → P m u x → Within rights m u (f x) Q) → Within rights n s (p >>= f) Q
+within-then rights n s p f P Q h k = within-bind rights n s p f Q (within-weaken rights n s p P (λ m u x. Within rights m u (f x) Q) k h)
+
 -- a program that only reads, and what comes after it
 pub within-after : {A B : Type 0} (rights : ℕ → Right) (j n : ℕ) (s : Filled) (p : Program A) (f : A → Program B) (Q : ℕ → Filled → B → Type 0) → Reads j p → j ≤ n → ((m : ℕ) (x : A) → n ≤ m + j → Within rights m s (f x) Q) → Within rights n s (p >>= f) Q
 within-after rights j n s p f Q h l k = within-bind rights n s p f Q (within-weaken rights n s p _ _ (λ m u x q. subst (λ z. Within rights m z (f x) Q) (sym (q .1)) (k m x (q .0))) (h rights n s l))

@@ -1,0 +1,4 @@
+pub mod Powers
+pub mod Residues
+pub mod Spans
+pub mod Table

@@ -1,0 +1,16 @@
+use mathlib.Core.Path.{_≡_, _∙_, ap}
+use Prim.Native.Nat.{_%_, _<_}
+use native.Mathlib.Nat.{mod-eq-of-lt}
+use native.Mathlib.Omega.{arith}
+use borrow.Author.Needs.{needs}
+use Rattle.number.specs.Outcomes.{turned}
+use Rattle.number.proofs.Powers.{turns}
+use Rattle.number.proofs.width.halfword.HalfwordArithmetic.turn.Needs as need
+
+pub returns : need.returns
+returns c =
+    let n = c .args .self in
+    let k = c .args .by in
+    let h : k % 16 < 16 = omega arith in
+    let e : c .rotate-left .result ≡ turned 16 n (k % 16) = c .rotate-left .ensures ∙ turns 16 n (k % 16) (search needs) h in
+    record { number = e; less = λ p. e ∙ ap (turned 16 n) (mod-eq-of-lt p) }
