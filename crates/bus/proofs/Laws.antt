@@ -19,7 +19,7 @@ use Rattle.board.specs.Meaning.{fetched, writable}
 use Rattle.bus.specs.declared.line.ReadLine.{ReadLine}
 use Rattle.bus.specs.declared.refusal.Refusal.{Refusal}
 use Rattle.bus.specs.Buffer.{cells, OneRun}
-use Rattle.bus.specs.Program.{Program, give, refuse, fetch, ask, put, _>>=_, runs, World, Trail, Outcome, own-byte, fetching, asking, listed, with-line, with-byte, times}
+use Rattle.bus.specs.Program.{Program, give, refuse, fetch, ask, put, _>>=_, runs, World, Trail, Outcome, own-byte, fetching, asking, listed, with-line, with-byte, times, Leads}
 use Rattle.bus.specs.Seen.{Roomy, Seen, Later, Runs}
 use Rattle.bus.proofs.Lines.{drop-more-same}
 use Rattle.bus.proofs.Buffers.{cells-front}
@@ -57,6 +57,24 @@ module _ {A B : Type 0} (f : A → Program B) (w : World) where
   bind-grows : (p : Program A) (t : Trail) → Grown (runs p w t .1) (runs (p >>= f) w t .1)
   bind-grows p t = subst (λ o. Grown (runs p w t .1) (o .1)) (sym (runs-bind p t)) (then-grows (runs p w t))
 
+-- ==== answers that a program may come to
+
+pub leads-ok : {A B : Type 0} (p : Program A) (f : A → Program B) (x : A) (r : Result B Refusal) → Leads p (Ok x) → Leads (f x) r → Leads (p >>= f) r
+unfolding Leads _>>=_
+leads-ok (give y) f x r h k = let e : x ≡ y = cc in subst (λ z. Leads (f z) r) e k
+leads-ok (refuse e) f x r h k = let z : _≡_ {A = ℕ} 0 1 = cc in absurd (omega arith)
+leads-ok (fetch a q) f x r h k = elim h [ inl m ↦ inl (m .0, m .1, leads-ok (q (m .0)) f x r (m .2) k) | inr m ↦ let z : _≡_ {A = ℕ} 0 1 = cc in absurd (omega arith) ]
+leads-ok (ask a q) f x r h k = elim h [ inl m ↦ inl (leads-ok q f x r m k) | inr m ↦ let z : _≡_ {A = ℕ} 0 1 = cc in absurd (omega arith) ]
+leads-ok (put a b q) f x r h k = leads-ok q f x r h k
+
+pub leads-err : {A B : Type 0} (p : Program A) (f : A → Program B) (e : Refusal) → Leads p (Err e) → Leads (p >>= f) (Err e)
+unfolding Leads _>>=_
+leads-err (give y) f e h = let z : _≡_ {A = ℕ} 0 1 = cc in absurd (omega arith)
+leads-err (refuse d) f e h = cc
+leads-err (fetch a q) f e h = elim h [ inl m ↦ inl (m .0, m .1, leads-err (q (m .0)) f e (m .2)) | inr m ↦ inr (cc) ]
+leads-err (ask a q) f e h = elim h [ inl m ↦ inl (leads-err q f e m) | inr m ↦ inr (cc) ]
+leads-err (put a b q) f e h = leads-err q f e h
+
 -- ==== room
 
 one-run-before : (xs ys : List (ℕ × ℕ)) → Extends xs ys → OneRun ys → OneRun xs
@@ -85,6 +103,7 @@ later-on {m = m} {n = n} {xs = xs} {ys = ys} h k = record {
 -- the first part was answered, and the rest runs on
 pub goes-on : {A B : Type 0} {p : Program A} {v w u : Seen} {x : A} {r : Result B Refusal} (f : A → Program B) → Runs p v (Ok x) w → Runs (f x) w r u → Runs (p >>= f) v r u
 goes-on {A} {B} {p} {v} {w} {u} {x} {r} f h k = record {
+  leads = leads-ok p f x r (h .leads) (k .leads);
   comes = λ room.
       let first = h .comes (roomy-before (bind-grows f (v .world) p (v .trail)) room) in
       let whole : runs (p >>= f) (v .world) (v .trail) ≡ runs (f x) (w .world) (w .trail) = runs-bind f (v .world) p (v .trail) ∙ (ap (then f (v .world)) first ∙ ap (λ z. runs (f x) z (w .trail)) (sym (h .world))) in
@@ -97,6 +116,7 @@ goes-on {A} {B} {p} {v} {w} {u} {x} {r} f h k = record {
 -- the first part was refused, and so is the whole
 pub ends-at : {A B : Type 0} {p : Program A} {v w : Seen} {e : Refusal} (f : A → Program B) → Runs p v (Err e) w → Runs (p >>= f) v (Err e) w
 ends-at {A} {B} {p} {v} {w} {e} f h = record {
+  leads = leads-err p f e (h .leads);
   comes = λ room. runs-bind f (v .world) p (v .trail) ∙ ap (then f (v .world)) (h .comes (roomy-before (bind-grows f (v .world) p (v .trail)) room));
   world = h .world;
   loan = h .loan;
@@ -104,12 +124,12 @@ ends-at {A} {B} {p} {v} {w} {e} f h = record {
 }
 
 pub gives : {A : Type 0} {x y : A} {v : Seen} → x ≡ y → Runs (give x) v (Ok y) v
-unfolding runs
-gives {v = v} e = record { comes = λ _. ap (λ z. (Ok z, v .trail)) e; world = refl; loan = refl; later = now-on }
+unfolding runs Leads
+gives {v = v} e = record { leads = ap Ok (sym e); comes = λ _. ap (λ z. (Ok z, v .trail)) e; world = refl; loan = refl; later = now-on }
 
 pub refuses : {A : Type 0} {d e : Refusal} {v : Seen} → d ≡ e → Runs {A = A} (refuse d) v (Err e) v
-unfolding runs
-refuses {v = v} q = record { comes = λ _. ap (λ z. (Err z, v .trail)) q; world = refl; loan = refl; later = now-on }
+unfolding runs Leads
+refuses {v = v} q = record { leads = ap Err (sym q); comes = λ _. ap (λ z. (Err z, v .trail)) q; world = refl; loan = refl; later = now-on }
 
 -- what a `?` hands on
 pub hands-on : {A : Type 0} {p : Program A} {v w : Seen} {e : Refusal} {r : Result A Refusal} → ErrBy r (λ y. y ≡ e) → Runs p v (Err e) w → Runs p v r w

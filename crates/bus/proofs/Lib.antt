@@ -7,3 +7,4 @@ pub mod Room
 pub mod Commits
 pub mod Bytes
 pub mod WideRoom
+pub mod Values

@@ -1,8 +1,9 @@
 -- What one access comes to, by cases.
-use Prim.Native.Nat.{ℕ, _+_, _≤_}
+use Prim.Native.Nat.{ℕ, _+_, _≤_, _<_}
 use native.Mathlib.Omega.{arith}
 use mathlib.Core.Path.{_≡_, refl, ap, sym, _∙_}
 use mathlib.Core.List.{List, [], _∷_, _++_}
+use mathlib.Core.Logic.{inl, inr}
 use mathlib.Core.Bool.{Bool, true, false, cond}
 use lib.ListN.{length}
 use Rattle.std.proofs.shelf.Lists.{length-push}
@@ -12,7 +13,7 @@ use Rattle.std.specs.declared.option.Option.the-variants.{Some, None}
 use Rattle.board.specs.Meaning.{fetched, writable}
 use Rattle.bus.specs.declared.refusal.Refusal.the-variants.{NoRight}
 use Rattle.bus.specs.Buffer.{OneRun}
-use Rattle.bus.specs.Program.{Program, give, runs, World, Trail, Outcome, own-byte, fetching, asking, listed, with-line, with-byte, fetch-byte, ask-byte, put-byte}
+use Rattle.bus.specs.Program.{Program, give, runs, World, Trail, Outcome, own-byte, fetching, asking, listed, with-line, with-byte, fetch-byte, ask-byte, put-byte, Leads}
 use Rattle.bus.specs.Seen.{Roomy, Seen, Later, Runs}
 use Rattle.bus.proofs.Laws.{now-on}
 
@@ -25,20 +26,25 @@ module _ (s : Seen) (a : ℕ) where
   at-fetch p q r = λ i. fetching a (λ b u. (Ok b, u)) (s .trail) (sym p i) (sym q i) (sym r i)
 
   -- a byte that the step itself has set
-  pub fetch-own : {b : ℕ} → Some b ≡ own-byte a (s .trail) → Runs (fetch-byte a) s (Ok b) s
-  fetch-own p = record { comes = λ _. at-fetch p refl refl; world = refl; loan = refl; later = now-on }
+  pub fetch-own : {b : ℕ} → b < 256 → Some b ≡ own-byte a (s .trail) → Runs (fetch-byte a) s (Ok b) s
+  unfolding Leads
+  fetch-own {b} l p = record { leads = inl (b, l, refl); comes = λ _. at-fetch p refl refl; world = refl; loan = refl; later = now-on }
 
   -- no right
   pub fetch-denied : None ≡ own-byte a (s .trail) → None ≡ fetched (s .world .rights a) (s .world .bytes a) → Runs (fetch-byte a) s (Err (NoRight a)) s
-  fetch-denied p q = record { comes = λ _. at-fetch p q refl; world = refl; loan = refl; later = now-on }
+  unfolding Leads
+  fetch-denied p q = record { leads = inr refl; comes = λ _. at-fetch p q refl; world = refl; loan = refl; later = now-on }
 
   -- an address that a used line names
-  pub fetch-listed : {b : ℕ} → None ≡ own-byte a (s .trail) → Some b ≡ fetched (s .world .rights a) (s .world .bytes a) → true ≡ listed a (s .world) (s .trail) → Runs (fetch-byte a) s (Ok b) s
-  fetch-listed p q r = record { comes = λ _. at-fetch p q r; world = refl; loan = refl; later = now-on }
+  pub fetch-listed : {b : ℕ} → b < 256 → None ≡ own-byte a (s .trail) → Some b ≡ fetched (s .world .rights a) (s .world .bytes a) → true ≡ listed a (s .world) (s .trail) → Runs (fetch-byte a) s (Ok b) s
+  unfolding Leads
+  fetch-listed {b} l p q r = record { leads = inl (b, l, refl); comes = λ _. at-fetch p q r; world = refl; loan = refl; later = now-on }
 
   -- any other address: one line more, where there is room
-  pub fetch-fresh : {b : ℕ} {s′ : Seen} → None ≡ own-byte a (s .trail) → Some b ≡ fetched (s .world .rights a) (s .world .bytes a) → false ≡ listed a (s .world) (s .trail) → (length (s .trail .reads) + 1 ≤ length (s .sheet) → s′ .trail ≡ with-line a b (s .trail)) → s′ .world ≡ s .world → s′ .loan ≡ s .loan → Later (s .used) (s .sheet) (s′ .used) (s′ .sheet) → Runs (fetch-byte a) s (Ok b) s′
-  fetch-fresh {b} p q r t w l h = record {
+  pub fetch-fresh : {b : ℕ} {s′ : Seen} → b < 256 → None ≡ own-byte a (s .trail) → Some b ≡ fetched (s .world .rights a) (s .world .bytes a) → false ≡ listed a (s .world) (s .trail) → (length (s .trail .reads) + 1 ≤ length (s .sheet) → s′ .trail ≡ with-line a b (s .trail)) → s′ .world ≡ s .world → s′ .loan ≡ s .loan → Later (s .used) (s .sheet) (s′ .used) (s′ .sheet) → Runs (fetch-byte a) s (Ok b) s′
+  unfolding Leads
+  fetch-fresh {b} small p q r t w l h = record {
+    leads = inl (b, small, refl);
     comes = λ room.
         let e = at-fetch p q r in
         let n = ap (λ o. length (o .1 .reads)) e in
@@ -53,15 +59,18 @@ module _ (s : Seen) (a : ℕ) where
   at-ask p = ap (asking a (λ u. (Ok tt, u)) (s .trail)) p
 
   pub ask-granted : writable (s .world .rights a) ≡ true → Runs (ask-byte a) s (Ok tt) s
-  ask-granted p = record { comes = λ _. at-ask p; world = refl; loan = refl; later = now-on }
+  unfolding Leads
+  ask-granted p = record { leads = inl refl; comes = λ _. at-ask p; world = refl; loan = refl; later = now-on }
 
   pub ask-denied : writable (s .world .rights a) ≡ false → Runs (ask-byte a) s (Err (NoRight a)) s
-  ask-denied p = record { comes = λ _. at-ask p; world = refl; loan = refl; later = now-on }
+  unfolding Leads
+  ask-denied p = record { leads = inr refl; comes = λ _. at-ask p; world = refl; loan = refl; later = now-on }
 
   -- a byte set: it joins the bytes before it wherever they stay one run
   pub put-joined : {b : ℕ} {s′ : Seen} (j : Bool) → (OneRun (s .trail .own ++ ((a, b) ∷ [])) → j ≡ true) → s′ .trail .own ≡ cond j (s .trail .own ++ ((a, b) ∷ [])) (s .trail .own) → s′ .trail .reads ≡ s .trail .reads → s′ .world ≡ s .world → s′ .loan ≡ s .loan → Later (s .used) (s .sheet) (s′ .used) (s′ .sheet) → Runs (put-byte a b) s (Ok tt) s′
-  unfolding runs
+  unfolding runs Leads
   put-joined {b} j o q r w l h = record {
+    leads = refl;
     comes = λ room. ap (λ u. (Ok tt, u)) (sym (same-trail r (q ∙ ap (λ x. cond x (s .trail .own ++ ((a, b) ∷ [])) (s .trail .own)) (o (room .bytes)))));
     world = w;
     loan = l;

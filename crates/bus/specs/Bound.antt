@@ -37,3 +37,11 @@ Reads k p = (rights : ℕ → Right) (n : ℕ) (s : Filled) → k ≤ n → With
 -- the program of a whole step: n fetches at the most, and 256 bytes set in one run
 abbrev pub Bounded : {A : Type 0} → ℕ → Program A → Type 0
 Bounded n p = (rights : ℕ → Right) → Within rights n unfilled p (λ _ _ _. Unit {0})
+
+-- P holds of each value that the program may give, whatever bytes it is answered
+unfoldable pub Gives : {A : Type 0} → (A → Type 0) → Program A → Type 0
+Gives P (give x) = P x
+Gives P (refuse e) = Unit {0}
+Gives P (fetch a k) = (b : ℕ) → b < 256 → Gives P (k b)
+Gives P (ask a k) = Gives P k
+Gives P (put a b k) = Gives P k

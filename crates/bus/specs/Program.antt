@@ -1,5 +1,7 @@
 -- What one step does with the board, one byte at a time, and what comes of it.
-use Prim.Native.Nat.{ℕ, zero, suc, _+_, _%_, _^_}
+use Prim.Native.Nat.{ℕ, zero, suc, _<_}
+use mathlib.Core.Path.{_≡_}
+use mathlib.Core.Logic.{_⊎_}
 use mathlib.Core.List.{List, [], _∷_, _++_}
 use mathlib.Core.Bool.{Bool, true, false, _||_}
 use Rattle.board.specs.declared.Right.{Right}
@@ -83,6 +85,14 @@ runs (refuse e) w t = (Err e, t)
 runs (fetch a k) w t = fetching a (λ b u. runs (k b) w u) t (own-byte a t) (fetched (w .rights a) (w .bytes a)) (listed a w t)
 runs (ask a k) w t = asking a (λ u. runs k w u) t (writable (w .rights a))
 runs (put a b k) w t = runs k w (with-byte a b t)
+
+-- an answer that the program may come to, whatever the board answers
+unfoldable pub Leads : {A : Type 0} → Program A → Result A Refusal → Type 0
+Leads (give x) r = r ≡ Ok x
+Leads (refuse e) r = r ≡ Err e
+Leads (fetch a k) r = ((b : ℕ) × (b < 256) × Leads (k b) r) ⊎ (r ≡ Err (NoRight a))
+Leads (ask a k) r = Leads k r ⊎ (r ≡ Err (NoRight a))
+Leads (put a b k) r = Leads k r
 
 -- the three accesses by themselves
 abbrev pub fetch-byte : ℕ → Program ℕ

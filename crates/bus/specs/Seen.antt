@@ -11,7 +11,7 @@ use Rattle.bus.specs.declared.line.ReadLine.{ReadLine}
 use Rattle.bus.specs.declared.line.WriteLine.{WriteLine}
 use Rattle.bus.specs.declared.refusal.Refusal.{Refusal}
 use Rattle.bus.specs.Buffer.{buffered, OneRun}
-use Rattle.bus.specs.Program.{Program, World, Trail, runs}
+use Rattle.bus.specs.Program.{Program, World, Trail, runs, Leads}
 use Rattle.std.specs.declared.result.Result.{Result}
 
 -- what a step leaves has room: its lines on a reads sheet of so many, and its bytes in one run
@@ -35,8 +35,10 @@ pub record Later (used : ℕ) (sheet : List ReadLine) (used′ : ℕ) (sheet′ 
   pub long : length sheet′ ≡ length sheet
   pub past : drop used′ sheet′ ≡ drop used′ sheet
 
--- code that found a bus at v, answered r and left it at w has run the program p: given room, it came to what p comes to
+-- code that found a bus at v, answered r and left it at w has run the program p: r is an answer that p may come to, and given room it is the one
+-- that p comes to, and w has what p leaves
 pub record Runs {A : Type 0} (p : Program A) (v : Seen) (r : Result A Refusal) (w : Seen) : Type 0 where
+  pub leads : Leads p r
   pub comes : Roomy (length (v .sheet)) (runs p (v .world) (v .trail) .1) → runs p (v .world) (v .trail) ≡ (r, w .trail)
   pub world : w .world ≡ v .world
   pub loan : w .loan ≡ v .loan
