@@ -16,6 +16,17 @@ use board::SensorPageBoard;
 use board::SensorPageMap;
 use board::copy_block;
 use board::read_block;
+use bus::Bus;
+use bus::ReadLine;
+use bus::Refusal;
+use bus::StepBus;
+use bus::StepBusBus;
+use bus::StoreBuffer;
+use bus::WriteLine;
+use bus::ask_bytes;
+use bus::fetch_number;
+use bus::put_number;
+use number::width::Size;
 use std::io;
 
 mod unit;
@@ -111,6 +122,157 @@ fn try_store<B: Board>(rt: &LibcRuntime, board: &mut B, address: u32, byte: u8) 
     )
 }
 
+// Makes a cell of the fuel map: a reading with the correction for its load.
+fn make_cell<B: Bus>(bus: &mut B, reading: u32, cell: u32) -> Result<u64, Refusal> {
+    let raw = fetch_number(bus, reading, Size::Halfword)?;
+    let load = (raw >> 12 & 15) as u32;
+    let correction = bus.fetch(unit::TABLE.wrapping_add(load))?;
+    let value = raw.wrapping_add(correction as u64);
+    ask_bytes(bus, cell, Size::Halfword)?;
+    put_number(bus, cell, Size::Halfword, value);
+    Ok(value)
+}
+
+// What a step came to, how many are complete, and how many lines of each sheet are used then.
+#[derive(Drop)]
+struct Tried {
+    outcome: Result<u64, Refusal>,
+    completed: u32,
+    read: usize,
+    written: usize,
+}
+
+// Runs a step on a bus over the board and the sheets. What it sets waits in the buffer.
+fn attempt<'a, 'b, B: Board>(
+    board: &'a B,
+    reads: &'b mut [ReadLine],
+    read: usize,
+    writes: &'a [WriteLine],
+    reading: u32,
+    cell: u32,
+) -> (Result<u64, Refusal>, usize, StoreBuffer) {
+    let mut bus = StepBus {
+        board,
+        reads,
+        used: read,
+        writes,
+        buffer: StoreBuffer::new(),
+    };
+    let outcome = make_cell(&mut bus, reading, cell);
+    (outcome, bus.used, bus.buffer)
+}
+
+// One step: it is accepted whole, or it leaves nothing but its reads lines.
+fn try_cell<B: Board>(
+    board: &mut B,
+    reads: &mut [ReadLine],
+    writes: &mut [WriteLine],
+    before: &Tried,
+    reading: u32,
+    cell: u32,
+) -> Tried {
+    let written = before.written.min(writes.len());
+    let (outcome, read, buffer) = attempt(
+        board,
+        reads,
+        before.read,
+        &writes[0..written],
+        reading,
+        cell,
+    );
+    let step = before.completed.saturating_add(1);
+    if outcome.is_ok() && buffer.commit(board, writes, written, step) {
+        let written = written + buffer.len();
+        return Tried {
+            outcome,
+            completed: step,
+            read,
+            written,
+        };
+    }
+    Tried {
+        outcome,
+        completed: before.completed,
+        read,
+        written,
+    }
+}
+
+fn print_outcome(rt: &LibcRuntime, reading: u32, cell: u32, tried: &Tried) -> io::Result<()> {
+    match tried.outcome {
+        Ok(value) => println!(rt, "  reading {reading:08X}, cell {cell:08X}: {value:04X}"),
+        Err(refusal) => {
+            let number = refusal.number();
+            let place = refusal.place();
+            println!(
+                rt,
+                "  reading {reading:08X}, cell {cell:08X}: refused, {number} at {place:08X}"
+            )
+        }
+    }
+}
+
+// Cells of a fuel map, each made in a step of its own, and the sheets that they leave.
+fn make_map<B: Board>(rt: &LibcRuntime, board: &mut B) -> io::Result<()> {
+    let mut reads = [ReadLine {
+        address: 0,
+        byte: 0,
+    }; 16];
+    let mut writes = [WriteLine {
+        step: 0,
+        address: 0,
+        byte: 0,
+    }; 16];
+    println!(rt, "Cells of the map, each a reading with its correction")?;
+    let first = Tried {
+        outcome: Ok(0),
+        completed: 0,
+        read: 0,
+        written: 0,
+    };
+    let first = try_cell(
+        board,
+        &mut reads,
+        &mut writes,
+        &first,
+        unit::READING_2,
+        unit::RAM,
+    );
+    print_outcome(rt, unit::READING_2, unit::RAM, &first)?;
+    let second = try_cell(
+        board,
+        &mut reads,
+        &mut writes,
+        &first,
+        unit::READING_2,
+        unit::TABLE,
+    );
+    print_outcome(rt, unit::READING_2, unit::TABLE, &second)?;
+    let third = try_cell(
+        board,
+        &mut reads,
+        &mut writes,
+        &second,
+        unit::RAM,
+        unit::CELL_2,
+    );
+    print_outcome(rt, unit::RAM, unit::CELL_2, &third)?;
+    println!(rt, "Reads sheet: the bytes fetched from the board")?;
+    for line in reads.iter().take(third.read) {
+        let address = line.address;
+        let byte = line.byte;
+        println!(rt, "  {address:08X} {byte:02X}")?;
+    }
+    println!(rt, "Writes sheet: the bytes stored on the board")?;
+    for line in writes.iter().take(third.written) {
+        let step = line.step;
+        let address = line.address;
+        let byte = line.byte;
+        println!(rt, "  {step} {address:08X} {byte:02X}")?;
+    }
+    Ok(())
+}
+
 fn work<B: MemoryMap>(rt: &LibcRuntime, board: &mut B) -> io::Result<()> {
     print_map(rt, board)?;
     copy(
@@ -133,6 +295,7 @@ fn work<B: MemoryMap>(rt: &LibcRuntime, board: &mut B) -> io::Result<()> {
     try_store(rt, board, unit::RAM, 0x5a)?;
     try_store(rt, board, unit::TABLE, 0x5a)?;
     try_store(rt, board, LAST, 0x5a)?;
+    make_map(rt, board)?;
     println!(rt, "RAM afterwards")?;
     print_rows(rt, board, unit::RAM, 12)
 }

@@ -8,6 +8,11 @@ pub const SENSORS: u32 = 0x0000_8000;
 
 pub const RAM: u32 = 0x0001_0000;
 
+// the third reading
+pub const READING_2: u32 = 0x0000_8004;
+
+pub const CELL_2: u32 = 0x0001_0002;
+
 pub const TABLE_COPY: u32 = 0x0001_0080;
 
 pub const READINGS_COPY: u32 = 0x0001_0090;
