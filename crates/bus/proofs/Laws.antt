@@ -19,7 +19,7 @@ use Rattle.board.specs.Meaning.{fetched, writable}
 use Rattle.bus.specs.declared.line.ReadLine.{ReadLine}
 use Rattle.bus.specs.declared.refusal.Refusal.{Refusal}
 use Rattle.bus.specs.Buffer.{cells, OneRun}
-use Rattle.bus.specs.Program.{Program, give, refuse, fetch, ask, put, _>>=_, runs, World, Trail, Outcome, own-byte, fetching, asking, listed, with-line, with-byte, times, Leads}
+use Rattle.bus.specs.Program.{Program, give, refuse, fetch, ask, put, _>>=_, runs, World, Trail, Outcome, own-byte, fetching, asking, listed, with-line, with-byte, times, Leads, answer}
 use Rattle.bus.specs.Seen.{Roomy, Seen, Later, Runs}
 use Rattle.bus.proofs.Lines.{drop-more-same}
 use Rattle.bus.proofs.Buffers.{cells-front}
@@ -131,9 +131,18 @@ pub refuses : {A : Type 0} {d e : Refusal} {v : Seen} → d ≡ e → Runs {A = 
 unfolding runs Leads
 refuses {v = v} q = record { leads = ap Err (sym q); comes = λ _. ap (λ z. (Err z, v .trail)) q; world = refl; loan = refl; later = now-on }
 
+-- code that only answers
+pub answers : {A : Type 0} {v : Seen} (q r : Result A Refusal) → r ≡ q → Runs (answer q) v r v
+answers (Ok x) r e = rw e (gives refl)
+answers (Err d) r e = rw e (refuses refl)
+
 -- what a `?` hands on
 pub hands-on : {A : Type 0} {p : Program A} {v w : Seen} {e : Refusal} {r : Result A Refusal} → ErrBy r (λ y. y ≡ e) → Runs p v (Err e) w → Runs p v r w
 hands-on {r = r} h k = let q = err-from-errBy r h in rw (q .1, q .2) k
+
+-- one of several cases
+pub by-case : {A X : Type 0} {x y : X} {v w : Seen} {r : Result A Refusal} (f : X → Program A) → x ≡ y → Runs (f y) v r w → Runs (f x) v r w
+by-case {v = v} {w = w} {r = r} f e h = subst (λ z. Runs (f z) v r w) (sym e) h
 
 -- a branch
 pub if-so : {A : Type 0} {b : Bool} {p : Program A} {v w : Seen} {r : Result A Refusal} (q : Program A) → b ≡ true → Runs p v r w → Runs (cond b p q) v r w

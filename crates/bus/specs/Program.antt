@@ -104,6 +104,11 @@ ask-byte a = ask a (give tt)
 abbrev pub put-byte : ℕ → ℕ → Program (Unit {0})
 put-byte a b = put a b (give tt)
 
+-- a program that only answers
+abbrev pub answer : {A : Type 0} → Result A Refusal → Program A
+answer (Ok x) = give x
+answer (Err e) = refuse e
+
 -- f for each number below n, in order, each going on from what the one before gave
 unfoldable pub times : {A : Type 0} → ℕ → (ℕ → A → Program A) → A → Program A
 times zero f x = give x

@@ -1,1 +1,3 @@
 pub mod Table
+pub mod Shapes
+pub mod Permits

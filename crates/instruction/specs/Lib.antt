@@ -1,2 +1,4 @@
 pub mod Operations
 pub mod Opcodes
+pub mod Modes
+pub mod Decode
