@@ -2,3 +2,4 @@ pub mod Operations
 pub mod Opcodes
 pub mod Modes
 pub mod Decode
+pub mod Formats

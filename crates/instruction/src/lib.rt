@@ -1,16 +1,23 @@
 // Instructions as values, and the decoder.
+mod action;
 mod decode;
+mod format;
 mod mode;
 mod opcode;
 mod operand;
 mod operation;
 
+pub use action::Action;
+pub use action::Length;
+pub use action::StringOperand;
 pub use decode::Located;
 pub use decode::Part;
 pub use decode::displacement;
 pub use decode::locate;
 pub use decode::operand_at;
 pub use decode::permit;
+pub use format::Decoded;
+pub use format::StringPart;
 pub use mode::Mode;
 pub use mode::Shape;
 pub use mode::Verdict;
