@@ -152,7 +152,11 @@ for w in (8, 16, 32):
         for flags in range(16):
             case("not", w, 0, "%x" % src, flags, invert(src, w, flags))
             case("test", w, 0, "%x" % src, flags, result(src, w, 0, 0))
-    for dst in (0, 1, top, top + 1, top - 1, 2 * top - 1, 0xB4F1965A % (2 * top)):
+        for flags in (0, 15):
+            case("inc", w, 0, "%x" % src, flags, add(src, 1, w, 0))
+            case("dec", w, 0, "%x" % src, flags, subtract(src, 1, w, 0))
+            case("neg", w, 0, "%x" % src, flags, subtract(0, src, w, 0))
+    for dst in (0, 1, top // 2, top - 1, top, top + 1, top // 2 * 3, 2 * top - 1, 0xB4F1965A % (2 * top)):
         for c in range(-128, 128):
             for op in ("shl", "sha"):
                 assert shift(op, dst, c, w) == shift_by_rule(op, dst, c, w)

@@ -1,6 +1,6 @@
 -- Numbers divided and multiplied by powers of two.
 use mathlib.Core.Bool.{true, false}
-use mathlib.Core.Path.{_≡_, refl, sym, _∙_, ap, subst}
+use mathlib.Core.Path.{_≡_, sym, _∙_, ap, subst}
 use Prim.Native.Nat.{ℕ, zero, suc, _+_, _-_, _*_, _/_, _%_, _^_, _<_, _≤_}
 use native.Mathlib.Nat.{div-eq-of-lt, lt-of-lt-of-le, mul-mod-left, mul-assoc, mod-eq-of-lt, mod-self, pow-le-pow-right, add-comm, add-zero, mul-one, div-one, sub-zero, zero-div}
 use native.Mathlib.Omega.{arith}
@@ -50,7 +50,7 @@ bit-gone n w k p =
     let even : n * 2 ^ (j + 1) % 2 ≡ 0 = gone n 1 (j + 1) (omega arith) in
     ap (λ m. eqb m 1) (ap (λ m. m % 2) rest ∙ even)
 
--- bytes
+-- no byte is left past a number's end
 pub far-byte : (n size i : ℕ) → n < 256 ^ size → size ≤ i → 0 ≡ n / 256 ^ i % 256
 far-byte n size i h p =
     let some : 0 < 256 = omega arith in

@@ -34,6 +34,8 @@ pub trait Width: Copy {
     // the number, without a sign
     ghost value: { Self → ℕ };
 
+    law some: { 1 ≤ size };
+
     law narrow: { size ≤ 8 };
 
     // how many bytes it has
@@ -97,6 +99,20 @@ pub trait Arithmetic: Width {
     fn turn(self, by: u32) -> Self
         ensures number { λ r. ⌜ Self·Width .value r ≡ turned (8 * Self·Width .size) (Self·Width .value self) (by % (8 * Self·Width .size)) ⌝ }
         ensures less { λ r. ⌜ (by < 8 * Self·Width .size → Self·Width .value r ≡ turned (8 * Self·Width .size) (Self·Width .value self) by) ⌝ };
+}
+
+// 0, as a number of the width.
+pub fn zero<W: Width>() -> W
+    ensures { λ r. ⌜ W·Width .value r ≡ 0 ⌝ }
+{
+    W::low(0)
+}
+
+// 1, as a number of the width.
+pub fn one<W: Width>() -> W
+    ensures { λ r. ⌜ W·Width .value r ≡ 1 ⌝ }
+{
+    W::low(1)
 }
 
 // The number of the low bits of a number with a sign.

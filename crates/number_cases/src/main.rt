@@ -24,7 +24,9 @@ use number::width::Size;
 use number::width::Width;
 use number::width::WordArithmetic;
 use number::width::WordWidth;
+use number::width::one;
 use number::width::sign_extend;
+use number::width::zero;
 use number::width::zero_extend;
 use std::error::AnyError;
 use std::io::BufRead;
@@ -96,6 +98,9 @@ fn computed<W: Arithmetic>(case: &Case) -> Result<Computed<W>, AnyError> {
         "xor" => Ok(xor(dst, src, before)),
         "not" => Ok(not(src, before)),
         "test" => Ok(test(src)),
+        "inc" => Ok(add(src, one(), false)),
+        "dec" => Ok(subtract(src, one(), false)),
+        "neg" => Ok(subtract(zero(), src, false)),
         _ => Err("no such operation".into()),
     }
 }

@@ -1,6 +1,5 @@
-use mathlib.Core.Path.{_∙_, ap}
 use native.Mathlib.Omega.{arith}
-use Prim.Native.Nat.{_*_, _%_, _^_, _≤_}
+use Prim.Native.Nat.{_*_}
 use mir.Syntax.{w64}
 use mir.Val.{SFits}
 use Rattle.std.proofs.shelf.Signed.{toZ-ofZ}
@@ -9,7 +8,9 @@ use Rattle.number.proofs.width.low_signed.Needs as need
 
 pub returns : need.returns
 returns g c =
-    let w = 8 * g .W·Width .size in
-    let f : SFits w64 (c .args .z) = c .fits .z in
+    let z = c .args .z in
+    let f : SFits w64 z = c .fits .z in
     let narrow = g .W·Width·met .narrow in
-    c .low .ensures .number ∙ ap (λ n. n % 2 ^ w) (simp toZ-ofZ at (c .cast-unsigned .ensures)) ∙ low-bits w (c .args .z) (omega arith) (f .sfits)
+    let back = toZ-ofZ w64 z f in
+    let low = low-bits (8 * g .W·Width .size) z (omega arith) (f .sfits) in
+    (cc)

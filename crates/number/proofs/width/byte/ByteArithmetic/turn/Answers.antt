@@ -12,5 +12,6 @@ returns c =
     let n = c .args .self in
     let k = c .args .by in
     let h : k % 8 < 8 = omega arith in
-    let e : c .rotate-left .result ≡ turned 8 n (k % 8) = c .rotate-left .ensures ∙ turns 8 n (k % 8) (search needs) h in
+    let t = turns 8 n (k % 8) (search needs) h in
+    let e : c .rotate-left .result ≡ turned 8 n (k % 8) = (cc) in
     record { number = e; less = λ p. e ∙ ap (turned 8 n) (mod-eq-of-lt p) }

@@ -12,5 +12,6 @@ returns c =
     let n = c .args .self in
     let k = c .args .by in
     let h : k % 16 < 16 = omega arith in
-    let e : c .rotate-left .result ≡ turned 16 n (k % 16) = c .rotate-left .ensures ∙ turns 16 n (k % 16) (search needs) h in
+    let t = turns 16 n (k % 16) (search needs) h in
+    let e : c .rotate-left .result ≡ turned 16 n (k % 16) = (cc) in
     record { number = e; less = λ p. e ∙ ap (turned 16 n) (mod-eq-of-lt p) }

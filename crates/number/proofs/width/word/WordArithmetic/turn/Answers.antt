@@ -12,5 +12,6 @@ returns c =
     let n = c .args .self in
     let k = c .args .by in
     let h : k % 32 < 32 = omega arith in
-    let e : c .rotate-left .result ≡ turned 32 n (k % 32) = c .rotate-left .ensures ∙ turns 32 n (k % 32) (search needs) h in
+    let t = turns 32 n (k % 32) (search needs) h in
+    let e : c .rotate-left .result ≡ turned 32 n (k % 32) = (cc) in
     record { number = e; less = λ p. e ∙ ap (turned 32 n) (mod-eq-of-lt p) }
