@@ -1,3 +1,4 @@
 pub mod Table
 pub mod Shapes
 pub mod Permits
+pub mod Fine

@@ -3,3 +3,4 @@ pub mod Opcodes
 pub mod Modes
 pub mod Decode
 pub mod Formats
+pub mod Lawful

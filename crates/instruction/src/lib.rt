@@ -2,6 +2,7 @@
 mod action;
 mod decode;
 mod format;
+mod instruction;
 mod mode;
 mod opcode;
 mod operand;
@@ -18,6 +19,8 @@ pub use decode::operand_at;
 pub use decode::permit;
 pub use format::Decoded;
 pub use format::StringPart;
+pub use format::decode_at;
+pub use instruction::Instruction;
 pub use mode::Mode;
 pub use mode::Shape;
 pub use mode::Verdict;
