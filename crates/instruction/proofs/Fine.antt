@@ -92,7 +92,7 @@ mode-fine true b = register-fine b
 
 -- ==== values
 
-values-any : {A : Type 0} (p : Program A) → Gives (λ _. Unit {0}) p
+pub values-any : {A : Type 0} (p : Program A) → Gives (λ _. Unit {0}) p
 unfolding Gives
 values-any (give x) = tt
 values-any (refuse e) = tt
@@ -101,7 +101,7 @@ values-any (ask a k) = values-any k
 values-any (put a b k) = values-any k
 
 -- the address n above the address k above p
-above-above : (p k n : ℕ) → above (above p k) n ≡ above p (k + n)
+pub above-above : (p k n : ℕ) → above (above p k) n ≡ above p (k + n)
 above-above p k n = omega arith
 
 -- an address with its next byte at most 4 after q
@@ -130,14 +130,14 @@ pub record Taken (p : ℕ) (s : Size) (a : Access) (x : Part) : Type 0 where
   pub few : far ≤ 9
   pub next : x .next ≡ above p far
 
-permit-fine : (p : ℕ) (v : Verdict) → Gives (λ _. is-permitted v ≡ true) (permit p v)
+pub permit-fine : (p : ℕ) (v : Verdict) → Gives (λ _. is-permitted v ≡ true) (permit p v)
 unfolding permit
 permit-fine p Permitted = values-give (λ _. is-permitted Permitted ≡ true) tt refl
 permit-fine p Unlisted = values-refuse (λ _. is-permitted Unlisted ≡ true) _
 permit-fine p Forbidden = values-refuse (λ _. is-permitted Forbidden ≡ true) _
 
 -- no write
-not-written : (a : Access) → (writes a && false) ≡ false
+pub not-written : (a : Access) → (writes a && false) ≡ false
 not-written Read = refl
 not-written Write = refl
 not-written Modify = refl

@@ -2,3 +2,4 @@ pub mod Table
 pub mod Shapes
 pub mod Permits
 pub mod Fine
+pub mod FineFormats
