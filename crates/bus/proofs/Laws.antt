@@ -20,10 +20,10 @@ use Rattle.bus.specs.declared.line.ReadLine.{ReadLine}
 use Rattle.bus.specs.declared.refusal.Refusal.{Refusal}
 use Rattle.bus.specs.Buffer.{cells, OneRun}
 use Rattle.bus.specs.Program.{Program, give, refuse, fetch, ask, put, _>>=_, runs, World, Trail, Outcome, own-byte, fetching, asking, listed, with-line, with-byte, times, Leads, answer}
-use Rattle.bus.specs.Seen.{Roomy, Seen, Later, Runs}
+use Rattle.bus.specs.Seen.{Extends, Grown, Roomy, Seen, Later, Runs}
 use Rattle.bus.proofs.Lines.{drop-more-same}
 use Rattle.bus.proofs.Buffers.{cells-front}
-use Rattle.bus.proofs.Trace.{Extends, Grown, grown-none, grows}
+use Rattle.bus.proofs.Trace.{grown-none, grown-trans, grows}
 
 -- ==== one program after another
 
@@ -108,6 +108,7 @@ goes-on {A} {B} {p} {v} {w} {u} {x} {r} f h k = record {
       let first = h .comes (roomy-before (bind-grows f (v .world) p (v .trail)) room) in
       let whole : runs (p >>= f) (v .world) (v .trail) ≡ runs (f x) (w .world) (w .trail) = runs-bind f (v .world) p (v .trail) ∙ (ap (then f (v .world)) first ∙ ap (λ z. runs (f x) z (w .trail)) (sym (h .world))) in
       whole ∙ k .comes (subst (λ n. Roomy n (runs (f x) (w .world) (w .trail) .1)) (sym (h .later .long)) (subst (λ o. Roomy (length (v .sheet)) (o .1)) whole room));
+  grown = grown-trans (v .trail) (w .trail) (u .trail) (h .grown) (k .grown);
   world = k .world ∙ h .world;
   loan = k .loan ∙ h .loan;
   later = later-on (h .later) (k .later);
@@ -118,6 +119,7 @@ pub ends-at : {A B : Type 0} {p : Program A} {v w : Seen} {e : Refusal} (f : A �
 ends-at {A} {B} {p} {v} {w} {e} f h = record {
   leads = leads-err p f e (h .leads);
   comes = λ room. runs-bind f (v .world) p (v .trail) ∙ ap (then f (v .world)) (h .comes (roomy-before (bind-grows f (v .world) p (v .trail)) room));
+  grown = h .grown;
   world = h .world;
   loan = h .loan;
   later = h .later;
@@ -125,11 +127,11 @@ ends-at {A} {B} {p} {v} {w} {e} f h = record {
 
 pub gives : {A : Type 0} {x y : A} {v : Seen} → x ≡ y → Runs (give x) v (Ok y) v
 unfolding runs Leads
-gives {v = v} e = record { leads = ap Ok (sym e); comes = λ _. ap (λ z. (Ok z, v .trail)) e; world = refl; loan = refl; later = now-on }
+gives {v = v} e = record { leads = ap Ok (sym e); comes = λ _. ap (λ z. (Ok z, v .trail)) e; grown = grown-none (v .trail); world = refl; loan = refl; later = now-on }
 
 pub refuses : {A : Type 0} {d e : Refusal} {v : Seen} → d ≡ e → Runs {A = A} (refuse d) v (Err e) v
 unfolding runs Leads
-refuses {v = v} q = record { leads = ap Err (sym q); comes = λ _. ap (λ z. (Err z, v .trail)) q; world = refl; loan = refl; later = now-on }
+refuses {v = v} q = record { leads = ap Err (sym q); comes = λ _. ap (λ z. (Err z, v .trail)) q; grown = grown-none (v .trail); world = refl; loan = refl; later = now-on }
 
 -- code that only answers
 pub answers : {A : Type 0} {v : Seen} (q r : Result A Refusal) → r ≡ q → Runs (answer q) v r v

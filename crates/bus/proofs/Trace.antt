@@ -12,6 +12,7 @@ use Rattle.board.specs.Meaning.{fetched, writable}
 use Rattle.bus.specs.declared.line.ReadLine.{ReadLine}
 use Rattle.bus.specs.Sheets.{names, All}
 use Rattle.bus.specs.Program.{Program, give, refuse, fetch, ask, put, runs, World, Trail, Outcome, own-byte, fetching, asking, listed, with-line, with-byte}
+use Rattle.bus.specs.Seen.{Extends, Grown}
 use Rattle.bus.proofs.Lines.{names-append}
 use Rattle.std.specs.declared.result.Result.the-variants.{Ok, Err}
 use Rattle.std.specs.declared.option.Option.{Option}
@@ -22,9 +23,6 @@ abbrev pub of-line : ReadLine → ℕ
 of-line l = l .address
 
 -- ---- a list that begins with another
-abbrev pub Extends : {X : Type 0} → List X → List X → Type 0
-Extends {X} xs ys = (zs : List X) × (ys ≡ xs ++ zs)
-
 pub extends-none : {X : Type 0} (xs : List X) → Extends xs xs
 extends-none xs = ([], sym (append-nil xs))
 
@@ -35,10 +33,6 @@ pub extends-trans : {X : Type 0} (xs ys zs : List X) → Extends xs ys → Exten
 extends-trans xs ys zs g h = (g .0 ++ h .0, h .1 ∙ (ap (λ l. l ++ h .0) (g .1) ∙ append-assoc xs (g .0) (h .0)))
 
 -- ---- what a step leaves only grows
-pub record Grown (t u : Trail) : Type 0 where
-  pub reads : Extends (t .reads) (u .reads)
-  pub own : Extends (t .own) (u .own)
-
 pub grown-none : (t : Trail) → Grown t t
 grown-none t = record { reads = extends-none (t .reads); own = extends-none (t .own) }
 

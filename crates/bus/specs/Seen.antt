@@ -1,7 +1,7 @@
 -- What a bus shows of a step, and what it means that code runs a program on it.
 use Prim.Native.Nat.{ℕ, _≤_}
 use mathlib.Core.Path.{_≡_}
-use mathlib.Core.List.{List}
+use mathlib.Core.List.{List, _++_}
 use lib.ListN.{length, take, drop}
 use base.Fml.{GName}
 use denote.Ref.{RefT, now, name}
@@ -13,6 +13,15 @@ use Rattle.bus.specs.declared.refusal.Refusal.{Refusal}
 use Rattle.bus.specs.Buffer.{buffered, OneRun}
 use Rattle.bus.specs.Program.{Program, World, Trail, runs, Leads}
 use Rattle.std.specs.declared.result.Result.{Result}
+
+-- a list that begins with another
+abbrev pub Extends : {X : Type 0} → List X → List X → Type 0
+Extends {X} xs ys = (zs : List X) × (ys ≡ xs ++ zs)
+
+-- what a step has left only grows: lines and bytes are added at the end
+pub record Grown (t u : Trail) : Type 0 where
+  pub reads : Extends (t .reads) (u .reads)
+  pub own : Extends (t .own) (u .own)
 
 -- what a step leaves has room: its lines on a reads sheet of so many, and its bytes in one run
 pub record Roomy (limit : ℕ) (t : Trail) : Type 0 where
@@ -36,10 +45,11 @@ pub record Later (used : ℕ) (sheet : List ReadLine) (used′ : ℕ) (sheet′ 
   pub past : drop used′ sheet′ ≡ drop used′ sheet
 
 -- code that found a bus at v, answered r and left it at w has run the program p: r is an answer that p may come to, and given room it is the one
--- that p comes to, and w has what p leaves
+-- that p comes to, and w has what p leaves. With room or without, lines and bytes are only added
 pub record Runs {A : Type 0} (p : Program A) (v : Seen) (r : Result A Refusal) (w : Seen) : Type 0 where
   pub leads : Leads p r
   pub comes : Roomy (length (v .sheet)) (runs p (v .world) (v .trail) .1) → runs p (v .world) (v .trail) ≡ (r, w .trail)
+  pub grown : Grown (v .trail) (w .trail)
   pub world : w .world ≡ v .world
   pub loan : w .loan ≡ v .loan
   pub later : Later (v .used) (v .sheet) (w .used) (w .sheet)
