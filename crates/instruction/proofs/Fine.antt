@@ -32,8 +32,8 @@ use Rattle.instruction.specs.declared.mode.Mode.{Mode}
 use Rattle.instruction.specs.declared.mode.Mode.the-variants.{At, Quick, Immediate, Register, Increment, Decrement, Double, Index, Reserved}
 use Rattle.instruction.specs.declared.mode.Verdict.{Verdict}
 use Rattle.instruction.specs.declared.mode.Verdict.the-variants.{Permitted, Forbidden, Reserved as Unlisted}
-use Rattle.instruction.specs.declared.decode.Located.{Located}
-use Rattle.instruction.specs.declared.decode.Part.{Part}
+use Rattle.instruction.specs.declared.parts.Located.{Located}
+use Rattle.instruction.specs.declared.parts.Part.{Part}
 use Rattle.instruction.specs.Modes.{list, listed-mode, plain-modes, plain-mode, register-modes, register-mode, mode-of, immediate-verdict, register-verdict}
 use Rattle.instruction.specs.Decode.{displacement, shape-at, judged, permit, shape-of, indexed-by, indexed-at, double-at, immediate-at, by-mode, operand-at}
 use Rattle.instruction.specs.Lawful.{base-named, address-named, operand-named, writes, is-immediate, is-permitted, operand-taken}

@@ -35,7 +35,7 @@ use Rattle.instruction.specs.declared.operand.Operand.the-variants.{Register a
 use Rattle.instruction.specs.declared.action.Action.the-variants.{Two as two, One as one, Branch as branch, Bsr as bsr, Strings as strings}
 use Rattle.instruction.specs.declared.action.Length.{Length}
 use Rattle.instruction.specs.declared.action.Length.the-variants.{Literal, Register as InRegister}
-use Rattle.instruction.specs.declared.decode.Part.{Part}
+use Rattle.instruction.specs.declared.parts.Part.{Part}
 use Rattle.instruction.specs.declared.format.Decoded.{Decoded}
 use Rattle.instruction.specs.declared.format.StringPart.{StringPart}
 use Rattle.instruction.specs.Operations.{first-access, second-access, one-access}
@@ -76,7 +76,7 @@ served-fine op = look-up-fine op served refl
 
 -- ==== whole instructions
 module _ (pc : ℕ) (low : pc < 2 ^ 32) where
-  abbrev Made : Decoded → Type 0
+  abbrev pub Made : Decoded → Type 0
   Made d = lawful (d .action) (offset pc (d .next)) ≡ true
 
   -- how far the address k above PC lies
@@ -112,7 +112,7 @@ module _ (pc : ℕ) (low : pc < 2 ^ 32) where
         values-bind (Taken (above pc 2) s (first-access o)) Made _ _ (operand-fine (above pc 2) s (first-access o) m) (λ x q.
         values-bind (Taken (x .next) t (second-access o)) Made _ _ (operand-fine (x .next) t (second-access o) m′) (λ y r.
         values-give Made _ (two-made o s t f (x .operand) (y .operand) (q .named) (r .named) (q .taken) (r .taken) (r .unwritten) (2 + q .far + r .far) (y .next) (omega arith) (omega (arith, q .few, r .few))
-            (r .next ∙ (ap (λ z. above z (r .far)) (q .next ∙ above-above pc 2 (q .far)) ∙ above-above pc (2 + q .far) (r .far))))))
+        (r .next ∙ (ap (λ z. above z (r .far)) (q .next ∙ above-above pc 2 (q .far)) ∙ above-above pc (2 + q .far) (r .far))))))
 
     two-by-made : (b : ℕ) → Gives Made (two-by pc o s t b)
     unfolding two-by
@@ -189,9 +189,9 @@ module _ (pc : ℕ) (low : pc < 2 ^ 32) where
   length-of-fine p b = elim (cases-bool (ltb b 128)) [
     | inl e ↦ subst (λ t. Gives LengthFine (answer (cond t (Ok (Literal b)) (cond (ltb (b % 128) 32) (Ok (InRegister (b % 32))) (Err (BadLengthByte p)))))) (sym e) (values-give LengthFine (Literal b) (refl, e))
     | inr e ↦ subst (λ t. Gives LengthFine (answer (cond t (Ok (Literal b)) (cond (ltb (b % 128) 32) (Ok (InRegister (b % 32))) (Err (BadLengthByte p)))))) (sym e) (elim (cases-bool (ltb (b % 128) 32)) [
-        | inl q ↦ subst (λ t. Gives LengthFine (answer (cond t (Ok (InRegister (b % 32))) (Err (BadLengthByte p))))) (sym q) (values-give LengthFine (InRegister (b % 32)) (lt-ltb (b % 32) 32 (omega arith), refl))
-        | inr q ↦ subst (λ t. Gives LengthFine (answer (cond t (Ok (InRegister (b % 32))) (Err (BadLengthByte p))))) (sym q) (values-refuse LengthFine _)
-      ])
+      | inl q ↦ subst (λ t. Gives LengthFine (answer (cond t (Ok (InRegister (b % 32))) (Err (BadLengthByte p))))) (sym q) (values-give LengthFine (InRegister (b % 32)) (lt-ltb (b % 32) 32 (omega arith), refl))
+      | inr q ↦ subst (λ t. Gives LengthFine (answer (cond t (Ok (InRegister (b % 32))) (Err (BadLengthByte p))))) (sym q) (values-refuse LengthFine _)
+    ])
   ]
 
   length-fine : (p : ℕ) → Gives LengthFine (length-at p)

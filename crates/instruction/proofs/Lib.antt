@@ -3,3 +3,4 @@ pub mod Shapes
 pub mod Permits
 pub mod Fine
 pub mod FineFormats
+pub mod Objections

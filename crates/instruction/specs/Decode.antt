@@ -27,8 +27,8 @@ use Rattle.instruction.specs.declared.mode.Mode.{Mode}
 use Rattle.instruction.specs.declared.mode.Mode.the-variants.{At, Quick, Immediate, Register, Increment, Decrement, Double, Index, Reserved}
 use Rattle.instruction.specs.declared.mode.Verdict.{Verdict}
 use Rattle.instruction.specs.declared.mode.Verdict.the-variants.{Permitted, Forbidden, Reserved as Unlisted}
-use Rattle.instruction.specs.declared.decode.Located.{Located}
-use Rattle.instruction.specs.declared.decode.Part.{Part}
+use Rattle.instruction.specs.declared.parts.Located.{Located}
+use Rattle.instruction.specs.declared.parts.Part.{Part}
 use Rattle.instruction.specs.Modes.{mode-of, plain-mode, immediate-verdict, register-verdict}
 
 -- the low bits of a number of that size, read with their sign

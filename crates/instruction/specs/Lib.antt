@@ -4,3 +4,4 @@ pub mod Modes
 pub mod Decode
 pub mod Formats
 pub mod Lawful
+pub mod Build

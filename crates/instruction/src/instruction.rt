@@ -4,6 +4,10 @@ ghost use mathlib.Core.Bool.{true};
 ghost use Rattle.instruction.specs.Lawful.{lawful};
 use super::action::Action;
 
+mod build;
+
+pub use build::decode;
+
 // An action with the number of bytes of its code. No register is above 31, no immediate is written or a doubleword, R31 is
 // no doubleword, and the length is 1 to 22.
 #[derive(Clone, Copy)]

@@ -4,7 +4,7 @@ use mir.Val.{toZ, ofZ}
 use mir.Syntax.{w32}
 use Rattle.bus.proofs.Laws.{goes-on, ends-at, gives, hands-on, by-case}
 use Rattle.instruction.specs.Decode.{shape-at}
-use Rattle.instruction.proofs.decode.locate.Needs as need
+use Rattle.instruction.proofs.parts.locate.Needs as need
 
 pub returns-in-Indirect : need.returns-in-Indirect
 unfolding shape-at

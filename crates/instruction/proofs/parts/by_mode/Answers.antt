@@ -2,7 +2,7 @@ use mathlib.Core.Path.{_≡_, refl, ap, sym, _∙_}
 use Rattle.bus.proofs.Laws.{goes-on, ends-at, gives, refuses, hands-on, by-case}
 use Rattle.instruction.specs.Decode.{by-mode}
 use Rattle.instruction.proofs.Permits.{permits}
-use Rattle.instruction.proofs.decode.by_mode.Needs as need
+use Rattle.instruction.proofs.parts.by_mode.Needs as need
 
 pub returns-in-Break-located : need.returns-in-Break-located
 unfolding by-mode

@@ -4,7 +4,7 @@ use mir.Val.{toZ, ofZ}
 use mir.Syntax.{w32}
 use Rattle.bus.proofs.Laws.{goes-on, ends-at, gives, hands-on}
 use Rattle.instruction.specs.Decode.{displacement}
-use Rattle.instruction.proofs.decode.displacement.Needs as need
+use Rattle.instruction.proofs.parts.displacement.Needs as need
 
 pub returns-in-Break-number : need.returns-in-Break-number
 unfolding displacement

@@ -4,7 +4,7 @@ use mir.Val.{toZ, ofZ}
 use mir.Syntax.{w32}
 use Rattle.bus.proofs.Laws.{goes-on, ends-at, gives, refuses, hands-on, by-case}
 use Rattle.instruction.specs.Decode.{double-at}
-use Rattle.instruction.proofs.decode.double.Needs as need
+use Rattle.instruction.proofs.parts.double.Needs as need
 
 pub returns-in-Break-inner : need.returns-in-Break-inner
 unfolding double-at

@@ -5,7 +5,7 @@ use mir.Syntax.{w32}
 use Rattle.bus.proofs.Laws.{goes-on, ends-at, gives, refuses, hands-on, by-case}
 use Rattle.instruction.proofs.Shapes.{no-shape}
 use Rattle.instruction.specs.Decode.{indexed-at, indexed-by, shape-of}
-use Rattle.instruction.proofs.decode.indexed.Needs as need
+use Rattle.instruction.proofs.parts.indexed.Needs as need
 
 pub returns-in-Break-byte : need.returns-in-Break-byte
 unfolding indexed-at

@@ -4,7 +4,7 @@ use mir.Val.{toZ, ofZ}
 use mir.Syntax.{w32}
 use Rattle.bus.proofs.Laws.{goes-on, ends-at, gives, refuses, hands-on, by-case}
 use Rattle.instruction.specs.Decode.{immediate-at}
-use Rattle.instruction.proofs.decode.immediate.Needs as need
+use Rattle.instruction.proofs.parts.immediate.Needs as need
 
 pub returns-in-Break-number : need.returns-in-Break-number
 unfolding immediate-at

@@ -1,7 +1,7 @@
 use mathlib.Core.Path.{sym}
 use Rattle.bus.proofs.Laws.{goes-on, ends-at, hands-on, by-case}
 use Rattle.instruction.specs.Decode.{operand-at, by-mode}
-use Rattle.instruction.proofs.decode.operand_at.Needs as need
+use Rattle.instruction.proofs.parts.operand_at.Needs as need
 
 pub returns-in-Break-byte : need.returns-in-Break-byte
 unfolding operand-at
