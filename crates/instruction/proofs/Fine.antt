@@ -41,15 +41,15 @@ use Rattle.instruction.specs.Lawful.{base-named, address-named, operand-named,
 -- ==== modes
 
 -- the registers of a shape are below 32, and its displacement has at most 4 bytes
-abbrev narrow : Size → Bool
+abbrev pub narrow : Size → Bool
 narrow s = ltb (byte-count s) 5
 
-abbrev fine-shape : Shape → Bool
+abbrev pub fine-shape : Shape → Bool
 fine-shape (Indirect n) = ltb n 32
 fine-shape (Displaced b s) = base-named b && narrow s
 fine-shape (Deferred b s) = base-named b && narrow s
 
-abbrev fine-mode : Mode → Bool
+abbrev pub fine-mode : Mode → Bool
 fine-mode (At s) = fine-shape s
 fine-mode (Quick v) = ltb v 16
 fine-mode Immediate = true
@@ -65,7 +65,7 @@ all-getD P [] k d h q = q
 all-getD P (x ∷ xs) zero d h q = h .0
 all-getD P (x ∷ xs) (suc k) d h q = all-getD P xs k d (h .1) q
 
-abbrev Good : Mode → Type 0
+abbrev pub Good : Mode → Type 0
 Good m = fine-mode m ≡ true
 
 listed-fine : (n : ℕ) → Good (listed-mode n)
@@ -74,7 +74,7 @@ listed-fine n = elim (cases-bool (ltb n 16)) [
   | inr e ↦ subst (λ t. Good (cond t (Quick n) (getD list (n - 16) Reserved))) (sym e) (all-getD Good list (n - 16) Reserved (refl, (refl, (refl, (refl, (refl, (refl, (refl, (refl, (refl, (refl, (refl, (refl, (refl, (refl, (refl, (refl, tt)))))))))))))))) refl)
 ]
 
-plain-fine : (b : ℕ) → Good (plain-mode b)
+pub plain-fine : (b : ℕ) → Good (plain-mode b)
 plain-fine b =
     let h : ltb (b % 32) 32 ≡ true = lt-ltb (b % 32) 32 (omega arith) in
     let w : (ltb (b % 32) 32 && true) ≡ true = ap (λ t. t && true) h in
@@ -86,7 +86,7 @@ register-fine b =
     let w : (ltb (b % 32) 32 && true) ≡ true = ap (λ t. t && true) h in
     all-getD Good (register-modes (b % 32)) (b / 32) Reserved (w, (w, (w, (h, (h, (h, (h, (refl, tt)))))))) refl
 
-mode-fine : (m : Bool) (b : ℕ) → Good (mode-of m b)
+pub mode-fine : (m : Bool) (b : ℕ) → Good (mode-of m b)
 mode-fine false b = plain-fine b
 mode-fine true b = register-fine b
 
@@ -111,7 +111,7 @@ pub record Reached (q : ℕ) (l : Located) : Type 0 where
   pub few : far ≤ 4
   pub next : l .next ≡ above q far
 
-narrow-few : (s : Size) → narrow s ≡ true → byte-count s ≤ 4
+pub narrow-few : (s : Size) → narrow s ≡ true → byte-count s ≤ 4
 narrow-few s h = omega (arith, ltb-true (byte-count s) 5 h)
 
 shape-fine : (q : ℕ) (s : Shape) → q < 2 ^ 32 → fine-shape s ≡ true → Gives (Reached q) (shape-at q s)
@@ -150,7 +150,7 @@ read-only Write s h = let z : _≡_ {A = ℕ} 0 1 = cc in absurd (omega arith)
 read-only Modify s h = let z : _≡_ {A = ℕ} 0 1 = cc in absurd (omega arith)
 read-only AddressOnly s h = refl
 
-bytes-few : (s : Size) → byte-count s ≤ 8
+pub bytes-few : (s : Size) → byte-count s ≤ 8
 bytes-few Byte = omega arith
 bytes-few Halfword = omega arith
 bytes-few Word = omega arith
@@ -162,7 +162,7 @@ quick-below Halfword v h = omega arith
 quick-below Word v h = omega arith
 quick-below Doubleword v h = omega arith
 
-shape-of-fine : (m : Mode) → Good m → (t : Shape) → shape-of m ≡ Some t → fine-shape t ≡ true
+pub shape-of-fine : (m : Mode) → Good m → (t : Shape) → shape-of m ≡ Some t → fine-shape t ≡ true
 shape-of-fine (At s) h t e = let q : s ≡ t = cc in subst (λ z. fine-shape z ≡ true) q h
 shape-of-fine (Quick v) h t e = let z : _≡_ {A = ℕ} 0 1 = cc in absurd (omega arith)
 shape-of-fine Immediate h t e = let z : _≡_ {A = ℕ} 0 1 = cc in absurd (omega arith)

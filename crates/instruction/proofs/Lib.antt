@@ -4,3 +4,4 @@ pub mod Permits
 pub mod Fine
 pub mod FineFormats
 pub mod Objections
+pub mod Fetches

@@ -1,5 +1,6 @@
 // Instructions as values, and the decoder.
 mod action;
+mod bound;
 mod format;
 mod instruction;
 mod make;
@@ -12,6 +13,7 @@ mod parts;
 pub use action::Action;
 pub use action::Length;
 pub use action::StringOperand;
+pub use bound::fetches_at_most_22;
 pub use format::Decoded;
 pub use format::StringPart;
 pub use format::decode_at;
