@@ -29,6 +29,7 @@ use bus::put_number;
 use number::width::Size;
 use std::io;
 
+mod listing;
 mod unit;
 
 const LAST: u32 = 0xffff_ffff;
@@ -275,6 +276,8 @@ fn make_map<B: Board>(rt: &LibcRuntime, board: &mut B) -> io::Result<()> {
 
 fn work<B: MemoryMap>(rt: &LibcRuntime, board: &mut B) -> io::Result<()> {
     print_map(rt, board)?;
+    println!(rt, "Firmware")?;
+    listing::print_listing(rt, board, unit::ROM, 16)?;
     copy(
         rt,
         board,
