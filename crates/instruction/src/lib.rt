@@ -11,6 +11,7 @@ mod operation;
 mod parts;
 
 pub use action::Action;
+pub use action::ActionDebug;
 pub use action::Length;
 pub use action::StringOperand;
 pub use bound::fetches_at_most_22;

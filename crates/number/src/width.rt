@@ -137,7 +137,7 @@ pub fn sign_extend<A: Width, B: Width>(x: A) -> B
 }
 
 // The widths by name.
-#[derive(Clone, Copy)]
+#[derive(Clone, Copy, PartialEq, Eq, Debug)]
 pub enum Size {
     Byte,
     Halfword,
