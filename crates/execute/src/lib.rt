@@ -1,0 +1,4 @@
+// Executing instructions.
+mod cpu;
+
+pub use cpu::Cpu;
