@@ -1,6 +1,7 @@
 // Executing instructions.
 mod cpu;
 mod operand;
+mod operation;
 
 pub use cpu::Cpu;
 pub use operand::Found;
@@ -9,3 +10,4 @@ pub use operand::displaced;
 pub use operand::locate;
 pub use operand::read_at;
 pub use operand::write_at;
+pub use operation::Resulted;

@@ -76,12 +76,7 @@ fn indexed(cpu: &Cpu, address: u32, x: u8, count: u32) -> u32
 }
 
 // Where an operand of so many bytes lies, and the registers that finding it changes.
-pub fn locate<B: Bus>(
-    bus: &mut B,
-    cpu: Cpu,
-    count: u32,
-    operand: Operand,
-) -> Result<Found, Refusal>
+pub fn locate<B: Bus>(bus: &mut B, cpu: Cpu, count: u32, operand: Operand) -> Result<Found, Refusal>
     ensures { λ r. ⌜ Runs (locate-is cpu count operand) (B·Bus .seen (now (bus .entry))) r (B·Bus .seen (now (bus .exit))) ⌝ }
 {
     match operand {
