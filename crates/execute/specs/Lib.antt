@@ -1,3 +1,4 @@
 pub mod Registers
 pub mod Operands
 pub mod Operations
+pub mod Two

@@ -1,6 +1,7 @@
 -- The registers of the processor.
 use Prim.Native.Nat.{ℕ, _+_, _-_, _*_, _/_, _%_, _^_}
 use lib.ListN.{getD, set}
+use Rattle.number.specs.declared.flags.Flags.{Flags}
 use Rattle.number.specs.declared.width.Size.{Size}
 use Rattle.number.specs.declared.width.Size.the-variants.{Byte, Halfword, Word, Doubleword}
 use Rattle.execute.specs.declared.cpu.Cpu.{Cpu}
@@ -26,3 +27,7 @@ write-register c Byte n v = with-register c n (register c n - register c n % 2 ^
 write-register c Halfword n v = with-register c n (register c n - register c n % 2 ^ 16 + v % 2 ^ 16)
 write-register c Word n v = with-register c n (v % 2 ^ 32)
 write-register c Doubleword n v = with-register (with-register c n (v % 2 ^ 32)) (n + 1) (v / 2 ^ 32)
+
+-- the processor with those flags, gone on to the address next
+abbrev pub gone-on : Cpu → Flags → ℕ → Cpu
+gone-on c f next = record { registers = c .registers; pc = next; flags = f }

@@ -1,7 +1,7 @@
 // The registers, the PC and the flags: the working copy of a step.
 ghost use mathlib.Core.Path.{_≡_};
 ghost use Prim.Native.Nat.{_+_};
-ghost use Rattle.execute.specs.Registers.{register, with-register, read-register, write-register};
+ghost use Rattle.execute.specs.Registers.{register, with-register, read-register, write-register, gone-on};
 use number::flags::Flags;
 use number::width::Size;
 
@@ -74,5 +74,15 @@ impl Cpu {
                 self.put(n as usize, low).put(n as usize + 1, high)
             }
         }
+    }
+
+    // The processor with those flags, gone on to an address.
+    pub fn gone_on(self, flags: Flags, next: u32) -> Cpu
+        ensures { λ r. ⌜ r ≡ gone-on self flags next ⌝ }
+    {
+        let mut cpu = self;
+        cpu.flags = flags;
+        cpu.pc = next;
+        cpu
     }
 }

@@ -2,6 +2,7 @@
 mod cpu;
 mod operand;
 mod operation;
+mod two;
 
 pub use cpu::Cpu;
 pub use operand::Found;
@@ -11,3 +12,4 @@ pub use operand::locate;
 pub use operand::read_at;
 pub use operand::write_at;
 pub use operation::Resulted;
+pub use operation::result;

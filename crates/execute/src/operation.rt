@@ -3,7 +3,7 @@ ghost use mathlib.Core.Path.{_≡_};
 ghost use Prim.Native.Nat.{_*_, _%_, _^_, _<_};
 ghost use Rattle.number.specs.Words.{signed};
 ghost use Rattle.number.specs.Sizes.{byte-count};
-ghost use Rattle.execute.specs.Operations.{combined as combined-is};
+ghost use Rattle.execute.specs.Operations.{combined as combined-is, result as result-is};
 use instruction::TwoOperation;
 use number::arithmetic::Computed;
 use number::arithmetic::add;
@@ -116,5 +116,25 @@ fn combined<W: Arithmetic>(
         TwoOperation::Shl => shift_logical(dst, count(x)),
         TwoOperation::Sha => shift_arithmetic(dst, count(x)),
         TwoOperation::Rot => rotate(dst, count(x)),
+    }
+}
+
+// The result of an instruction of two operands, at its sizes. A doubleword serves moves only.
+pub fn result(
+    operation: TwoOperation,
+    first: Size,
+    second: Size,
+    flags: Flags,
+    x: u64,
+    y: u64,
+) -> Resulted
+    ensures number { λ r. ⌜ r .number ≡ result-is operation first second flags x y .number ⌝ }
+    ensures flags { λ r. ⌜ r .flags ≡ result-is operation first second flags x y .flags ⌝ }
+{
+    match second {
+        Size::Byte => of_width(combined::<u8>(operation, first, flags, x, y)),
+        Size::Halfword => of_width(combined::<u16>(operation, first, flags, x, y)),
+        Size::Word => of_width(combined::<u32>(operation, first, flags, x, y)),
+        Size::Doubleword => Resulted { number: x, flags },
     }
 }
