@@ -2,3 +2,4 @@ pub mod Registers
 pub mod Operands
 pub mod Operations
 pub mod Two
+pub mod One

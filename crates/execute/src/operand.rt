@@ -50,7 +50,7 @@ pub fn displaced(address: u32, displacement: i32) -> u32
 }
 
 // The word at an address.
-fn pointer<B: Bus>(bus: &mut B, address: u32) -> Result<u32, Refusal>
+pub(crate) fn pointer<B: Bus>(bus: &mut B, address: u32) -> Result<u32, Refusal>
     ensures { λ r. ⌜ Runs (fetch-pointer address) (B·Bus .seen (now (bus .entry))) r (B·Bus .seen (now (bus .exit))) ⌝ }
 {
     let word = fetch_number(bus, address, Size::Word)?;

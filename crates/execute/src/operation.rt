@@ -43,7 +43,7 @@ fn count(number: u64) -> i8
     ((number % 256) as u8).cast_signed()
 }
 
-fn of_width<W: Arithmetic>(computed: Computed<W>) -> Resulted
+pub(crate) fn of_width<W: Arithmetic>(computed: Computed<W>) -> Resulted
     ensures number { λ r. ⌜ r .number ≡ W·Width .value (computed .value) ⌝ }
     ensures flags { λ r. ⌜ r .flags ≡ computed .flags ⌝ }
 {
@@ -78,7 +78,7 @@ fn signed_of(size: Size, number: u64) -> i64
 }
 
 // The number alone, with the flags as they were.
-fn moved<W: Arithmetic>(value: W, flags: Flags) -> Computed<W>
+pub(crate) fn moved<W: Arithmetic>(value: W, flags: Flags) -> Computed<W>
     ensures value { λ r. ⌜ r .value ≡ value ⌝ }
     ensures flags { λ r. ⌜ r .flags ≡ flags ⌝ }
 {

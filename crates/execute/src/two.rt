@@ -16,7 +16,7 @@ use instruction::TwoOperation;
 use number::width::Size;
 
 // The address of a location in memory.
-fn location_address(location: Location) -> u32
+pub(crate) fn location_address(location: Location) -> u32
     ensures { λ r. ⌜ r ≡ address-in location ⌝ }
 {
     match location {
@@ -26,7 +26,7 @@ fn location_address(location: Location) -> u32
 }
 
 // What an instruction takes of an operand, by its access.
-fn taken<B: Bus>(
+pub(crate) fn taken<B: Bus>(
     bus: &mut B,
     cpu: Cpu,
     size: Size,
@@ -44,7 +44,7 @@ fn taken<B: Bus>(
 }
 
 // A result put where the access writes.
-fn left<B: Bus>(
+pub(crate) fn left<B: Bus>(
     bus: &mut B,
     cpu: Cpu,
     size: Size,
