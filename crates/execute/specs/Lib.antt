@@ -3,3 +3,4 @@ pub mod Operands
 pub mod Operations
 pub mod Two
 pub mod One
+pub mod Strings

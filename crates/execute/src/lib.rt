@@ -3,6 +3,7 @@ mod cpu;
 mod one;
 mod operand;
 mod operation;
+mod string;
 mod two;
 
 pub use cpu::Cpu;

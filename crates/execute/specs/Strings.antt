@@ -1,0 +1,49 @@
+-- Strings: characters of one or two bytes, from the lower end on.
+use Prim.Native.Nat.{ℕ, _+_, _-_, _*_, _%_, _^_, min}
+use mathlib.Core.Bool.{Bool, true, false, cond, not}
+use lib.Dec.{eqb, ltb}
+use Rattle.board.specs.Block.{above}
+use Rattle.number.specs.declared.flags.Flags.{Flags}
+use Rattle.number.specs.declared.width.Size.{Size}
+use Rattle.number.specs.Sizes.{byte-count}
+use Rattle.bus.specs.declared.refusal.Refusal.the-variants.{TooLong}
+use Rattle.bus.specs.Program.{Program, give, refuse, _>>=_, times}
+use Rattle.bus.specs.Wide.{fetch-number, ask-bytes, put-number}
+use Rattle.instruction.specs.declared.action.Length.{Length}
+use Rattle.instruction.specs.declared.action.Length.the-variants.{Literal, Register}
+use Rattle.instruction.specs.declared.action.StringOperand.{StringOperand}
+use Rattle.execute.specs.declared.cpu.Cpu.{Cpu}
+use Rattle.execute.specs.Registers.{register, with-register, gone-on}
+
+-- how many characters: a register's full value
+abbrev pub length-value : Cpu → Length → ℕ
+length-value c (Literal n) = n
+length-value c (Register n) = register c n
+
+-- the length of a string operand, 128 characters at the most
+unfoldable pub counted : Cpu → StringOperand → Program ℕ
+counted c x = cond (ltb 128 (length-value c (x .length))) (refuse (TooLong (above (c .pc) (x .place)))) (give (length-value c (x .length)))
+
+-- the address of character i of a string of characters of k bytes
+abbrev pub character : ℕ → ℕ → ℕ → ℕ
+character k a i = above a (i * k)
+
+-- a character put at its place: the right first
+unfoldable pub put-character : ℕ → ℕ → ℕ → ℕ → Program (Unit {0})
+put-character k to i v =
+    ask-bytes k (character k to i) >>= λ _.
+    put-number k (character k to i) v
+
+-- one character copied: it is fetched, then the right is asked for, then it is set
+unfoldable pub copy-character : ℕ → ℕ → ℕ → ℕ → Program (Unit {0})
+copy-character k from to i =
+    fetch-number k (character k from i) >>= λ v.
+    put-character k to i v
+
+-- n characters copied
+unfoldable pub copied : ℕ → ℕ → ℕ → ℕ → Program (Unit {0})
+copied k from to n = times n (λ i _. copy-character k from to i) tt
+
+-- n characters filled with v after the first m
+unfoldable pub filled-from : ℕ → ℕ → ℕ → ℕ → ℕ → Program (Unit {0})
+filled-from k to m v n = times n (λ i _. put-character k to (m + i) v) tt

@@ -1,0 +1,84 @@
+// Strings.
+ghost use mathlib.Core.Path.{_≡_};
+ghost use Prim.Native.Nat.{_*_, _+_};
+ghost use Rattle.std.specs.declared.result.Result.the-variants.{Ok};
+ghost use Rattle.number.specs.Sizes.{byte-count};
+ghost use Rattle.bus.specs.Seen.{Runs};
+ghost use Rattle.execute.specs.Strings.{length-value as length-value-is, counted as counted-is, character as character-is, put-character as put-character-is, copy-character as copy-character-is, copied as copied-is, filled-from as filled-from-is};
+use super::cpu::Cpu;
+use bus::Bus;
+use bus::Refusal;
+use bus::ask_bytes;
+use bus::fetch_number;
+use bus::put_number;
+use instruction::Length;
+use instruction::StringOperand;
+use number::width::Size;
+
+// How many characters a string has.
+fn length_value(cpu: &Cpu, length: Length) -> u32
+    ensures { λ r. ⌜ r ≡ length-value-is (now (cpu .entry)) length ⌝ }
+{
+    match length {
+        Length::Literal(n) => n as u32,
+        Length::Register(n) => cpu.register(n),
+    }
+}
+
+// The length of a string operand, 128 characters at the most.
+fn counted<B: Bus>(bus: &mut B, cpu: Cpu, string: StringOperand) -> Result<u32, Refusal>
+    ensures { λ r. ⌜ Runs (counted-is cpu string) (B·Bus .seen (now (bus .entry))) r (B·Bus .seen (now (bus .exit))) ⌝ }
+{
+    let n = length_value(&cpu, string.length);
+    if n > 128 {
+        return Err(Refusal::TooLong(cpu.pc.wrapping_add(string.place)));
+    }
+    Ok(n)
+}
+
+// The address of a character.
+fn character(size: Size, string: u32, i: u32) -> u32
+    ensures { λ r. ⌜ r ≡ character-is (byte-count size) string i ⌝ }
+{
+    string.wrapping_add(i.wrapping_mul(size.bytes()))
+}
+
+// A character put at its place.
+fn put_character<B: Bus>(
+    bus: &mut B,
+    size: Size,
+    to: u32,
+    i: u32,
+    value: u64,
+) -> Result<(), Refusal>
+    ensures { λ r. ⌜ Runs (put-character-is (byte-count size) to i value) (B·Bus .seen (now (bus .entry))) r (B·Bus .seen (now (bus .exit))) ⌝ }
+{
+    let at = character(size, to, i);
+    ask_bytes(bus, at, size)?;
+    put_number(bus, at, size, value);
+    Ok(())
+}
+
+// One character copied.
+fn copy_character<B: Bus>(
+    bus: &mut B,
+    size: Size,
+    from: u32,
+    to: u32,
+    i: u32,
+) -> Result<(), Refusal>
+    ensures { λ r. ⌜ Runs (copy-character-is (byte-count size) from to i) (B·Bus .seen (now (bus .entry))) r (B·Bus .seen (now (bus .exit))) ⌝ }
+{
+    let v = fetch_number(bus, character(size, from, i), size)?;
+    put_character(bus, size, to, i, v)
+}
+
+// So many characters copied.
+fn copied<B: Bus>(bus: &mut B, size: Size, from: u32, to: u32, count: u32) -> Result<(), Refusal>
+    ensures { λ r. ⌜ Runs (copied-is (byte-count size) from to count) (B·Bus .seen (now (bus .entry))) r (B·Bus .seen (now (bus .exit))) ⌝ }
+{
+    for i in 0..count {
+        copy_character(bus, size, from, to, i)?;
+    }
+    Ok(())
+}
