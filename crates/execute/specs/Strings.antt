@@ -44,6 +44,6 @@ copy-character k from to i =
 unfoldable pub copied : ℕ → ℕ → ℕ → ℕ → Program (Unit {0})
 copied k from to n = times n (λ i _. copy-character k from to i) tt
 
--- n characters filled with v after the first m
-unfoldable pub filled-from : ℕ → ℕ → ℕ → ℕ → ℕ → Program (Unit {0})
-filled-from k to m v n = times n (λ i _. put-character k to (m + i) v) tt
+-- n characters filled with v
+unfoldable pub filled : ℕ → ℕ → ℕ → ℕ → Program (Unit {0})
+filled k to v n = times n (λ i _. put-character k to i v) tt

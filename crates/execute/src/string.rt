@@ -4,7 +4,7 @@ ghost use Prim.Native.Nat.{_*_, _+_};
 ghost use Rattle.std.specs.declared.result.Result.the-variants.{Ok};
 ghost use Rattle.number.specs.Sizes.{byte-count};
 ghost use Rattle.bus.specs.Seen.{Runs};
-ghost use Rattle.execute.specs.Strings.{length-value as length-value-is, counted as counted-is, character as character-is, put-character as put-character-is, copy-character as copy-character-is, copied as copied-is, filled-from as filled-from-is};
+ghost use Rattle.execute.specs.Strings.{length-value as length-value-is, counted as counted-is, character as character-is, put-character as put-character-is, copy-character as copy-character-is, copied as copied-is, filled as filled-is};
 use super::cpu::Cpu;
 use bus::Bus;
 use bus::Refusal;
@@ -79,6 +79,16 @@ fn copied<B: Bus>(bus: &mut B, size: Size, from: u32, to: u32, count: u32) -> Re
 {
     for i in 0..count {
         copy_character(bus, size, from, to, i)?;
+    }
+    Ok(())
+}
+
+// So many characters filled with a value.
+fn filled<B: Bus>(bus: &mut B, size: Size, to: u32, value: u64, count: u32) -> Result<(), Refusal>
+    ensures { λ r. ⌜ Runs (filled-is (byte-count size) to value count) (B·Bus .seen (now (bus .entry))) r (B·Bus .seen (now (bus .exit))) ⌝ }
+{
+    for i in 0..count {
+        put_character(bus, size, to, i, value)?;
     }
     Ok(())
 }
