@@ -13,6 +13,7 @@ use Rattle.instruction.specs.declared.action.Length.{Length}
 use Rattle.instruction.specs.declared.action.Length.the-variants.{Literal, Register}
 use Rattle.instruction.specs.declared.action.StringOperand.{StringOperand}
 use Rattle.execute.specs.declared.cpu.Cpu.{Cpu}
+use Rattle.execute.specs.declared.string.Stopped.{Stopped}
 use Rattle.execute.specs.Registers.{register, with-register, gone-on}
 
 -- how many characters: a register's full value
@@ -47,3 +48,15 @@ copied k from to n = times n (λ i _. copy-character k from to i) tt
 -- n characters filled with v
 unfoldable pub filled : ℕ → ℕ → ℕ → ℕ → Program (Unit {0})
 filled k to v n = times n (λ i _. put-character k to i v) tt
+
+-- a copy that ends before the first character equal to `stop`: one character more, unless that was met
+unfoldable pub stop-step : ℕ → ℕ → ℕ → ℕ → ℕ → Stopped → Program Stopped
+stop-step k from to stop i st =
+    cond (st .met) (give st)
+    (fetch-number k (character k from i) >>= λ v.
+    cond (eqb v stop) (give (record { copied = i; met = true }))
+    (put-character k to i v >>= λ _. give (record { copied = i + 1; met = false })))
+
+-- n characters at the most
+unfoldable pub copied-until : ℕ → ℕ → ℕ → ℕ → ℕ → Program Stopped
+copied-until k from to stop n = times n (stop-step k from to stop) (record { copied = 0; met = false })

@@ -1,10 +1,10 @@
 // Strings.
 ghost use mathlib.Core.Path.{_≡_};
-ghost use Prim.Native.Nat.{_*_, _+_};
+ghost use Prim.Native.Nat.{_*_, _+_, _<_, _≤_};
 ghost use Rattle.std.specs.declared.result.Result.the-variants.{Ok};
 ghost use Rattle.number.specs.Sizes.{byte-count};
 ghost use Rattle.bus.specs.Seen.{Runs};
-ghost use Rattle.execute.specs.Strings.{length-value as length-value-is, counted as counted-is, character as character-is, put-character as put-character-is, copy-character as copy-character-is, copied as copied-is, filled as filled-is};
+ghost use Rattle.execute.specs.Strings.{length-value as length-value-is, counted as counted-is, character as character-is, put-character as put-character-is, copy-character as copy-character-is, copied as copied-is, filled as filled-is, stop-step as stop-step-is, copied-until as copied-until-is};
 use super::cpu::Cpu;
 use bus::Bus;
 use bus::Refusal;
@@ -14,6 +14,13 @@ use bus::put_number;
 use instruction::Length;
 use instruction::StringOperand;
 use number::width::Size;
+
+// How many characters a copy came to, and whether it met the stop character.
+#[derive(Clone, Copy)]
+pub struct Stopped {
+    pub copied: u32,
+    pub met: bool,
+}
 
 // How many characters a string has.
 fn length_value(cpu: &Cpu, length: Length) -> u32
@@ -91,4 +98,34 @@ fn filled<B: Bus>(bus: &mut B, size: Size, to: u32, value: u64, count: u32) -> R
         put_character(bus, size, to, i, value)?;
     }
     Ok(())
+}
+
+// The copy that ends before the stop character: one character more, unless that was met.
+fn stop_step<B: Bus>(
+    bus: &mut B,
+    size: Size,
+    from: u32,
+    to: u32,
+    stop: u64,
+    i: u32,
+    state: Stopped,
+) -> Result<Stopped, Refusal>
+    requires { ⌜ i < 128 ⌝ }
+    ensures { λ r. ⌜ Runs (stop-step-is (byte-count size) from to stop i state) (B·Bus .seen (now (bus .entry))) r (B·Bus .seen (now (bus .exit))) ⌝ }
+{
+    if state.met {
+        return Ok(state);
+    }
+    let v = fetch_number(bus, character(size, from, i), size)?;
+    if v == stop {
+        return Ok(Stopped {
+            copied: i,
+            met: true,
+        });
+    }
+    put_character(bus, size, to, i, v)?;
+    Ok(Stopped {
+        copied: i + 1,
+        met: false,
+    })
 }
