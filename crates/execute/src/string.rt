@@ -129,3 +129,25 @@ fn stop_step<B: Bus>(
         met: false,
     })
 }
+
+// The copy that ends before the stop character, of so many characters at the most.
+fn copied_until<B: Bus>(
+    bus: &mut B,
+    size: Size,
+    from: u32,
+    to: u32,
+    stop: u64,
+    count: u32,
+) -> Result<Stopped, Refusal>
+    requires { ⌜ count ≤ 128 ⌝ }
+    ensures { λ r. ⌜ Runs (copied-until-is (byte-count size) from to stop count) (B·Bus .seen (now (bus .entry))) r (B·Bus .seen (now (bus .exit))) ⌝ }
+{
+    let mut state = Stopped {
+        copied: 0,
+        met: false,
+    };
+    for i in 0..count {
+        state = stop_step(bus, size, from, to, stop, i, state)?;
+    }
+    Ok(state)
+}
