@@ -60,3 +60,17 @@ stop-step k from to stop i st =
 -- n characters at the most
 unfoldable pub copied-until : ℕ → ℕ → ℕ → ℕ → ℕ → Program Stopped
 copied-until k from to stop n = times n (stop-step k from to stop) (record { copied = 0; met = false })
+
+-- the end of a string instruction: R28 names the character after the i-th of the source, R27 the one after the j-th of the destination
+abbrev pub string-done : Cpu → ℕ → ℕ → ℕ → ℕ → ℕ → Flags → ℕ → Cpu
+string-done c k from to i j f next = gone-on (with-register (with-register c 28 (character k from i)) 27 (character k to j)) f next
+
+-- the flags with CY so
+abbrev pub with-carry : Flags → Bool → Flags
+with-carry f cy = record { cy = cy; ov = f .ov; s = f .s; z = f .z }
+
+-- MOVC: as many characters as the shorter string has
+unfoldable pub moved : Cpu → Size → ℕ → ℕ → ℕ → ℕ → Program Cpu
+moved c s from to n next =
+    copied (byte-count s) from to n >>= λ _.
+    give (string-done c (byte-count s) from to n n (c .flags) next)

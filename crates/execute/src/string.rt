@@ -1,10 +1,10 @@
 // Strings.
 ghost use mathlib.Core.Path.{_≡_};
-ghost use Prim.Native.Nat.{_*_, _+_, _<_, _≤_};
+ghost use Prim.Native.Nat.{_*_, _+_, _<_, _≤_, min};
 ghost use Rattle.std.specs.declared.result.Result.the-variants.{Ok};
 ghost use Rattle.number.specs.Sizes.{byte-count};
 ghost use Rattle.bus.specs.Seen.{Runs};
-ghost use Rattle.execute.specs.Strings.{length-value as length-value-is, counted as counted-is, character as character-is, put-character as put-character-is, copy-character as copy-character-is, copied as copied-is, filled as filled-is, stop-step as stop-step-is, copied-until as copied-until-is};
+ghost use Rattle.execute.specs.Strings.{length-value as length-value-is, counted as counted-is, character as character-is, put-character as put-character-is, copy-character as copy-character-is, copied as copied-is, filled as filled-is, stop-step as stop-step-is, copied-until as copied-until-is, string-done as string-done-is, with-carry as with-carry-is, moved as moved-is};
 use super::cpu::Cpu;
 use bus::Bus;
 use bus::Refusal;
@@ -13,6 +13,7 @@ use bus::fetch_number;
 use bus::put_number;
 use instruction::Length;
 use instruction::StringOperand;
+use number::flags::Flags;
 use number::width::Size;
 
 // How many characters a copy came to, and whether it met the stop character.
@@ -150,4 +151,54 @@ fn copied_until<B: Bus>(
         state = stop_step(bus, size, from, to, stop, i, state)?;
     }
     Ok(state)
+}
+
+// The lesser of two lengths.
+fn lesser(m: u32, n: u32) -> u32
+    ensures { λ r. ⌜ r ≡ min m n ⌝ }
+{
+    if m < n { m } else { n }
+}
+
+// The flags with CY so.
+fn with_carry(flags: Flags, cy: bool) -> Flags
+    ensures { λ r. ⌜ r ≡ with-carry-is flags cy ⌝ }
+{
+    let mut f = flags;
+    f.cy = cy;
+    f
+}
+
+// The registers after a string instruction.
+fn string_done(
+    cpu: Cpu,
+    size: Size,
+    from: u32,
+    to: u32,
+    i: u32,
+    j: u32,
+    flags: Flags,
+    next: u32,
+) -> Cpu
+    ensures { λ r. ⌜ r ≡ string-done-is cpu (byte-count size) from to i j flags next ⌝ }
+{
+    let source = cpu.with_register(28, character(size, from, i));
+    let both = source.with_register(27, character(size, to, j));
+    both.gone_on(flags, next)
+}
+
+// MOVC, of so many characters.
+fn moved<B: Bus>(
+    bus: &mut B,
+    cpu: Cpu,
+    size: Size,
+    from: u32,
+    to: u32,
+    count: u32,
+    next: u32,
+) -> Result<Cpu, Refusal>
+    ensures { λ r. ⌜ Runs (moved-is cpu size from to count next) (B·Bus .seen (now (bus .entry))) r (B·Bus .seen (now (bus .exit))) ⌝ }
+{
+    copied(bus, size, from, to, count)?;
+    Ok(string_done(cpu, size, from, to, count, count, cpu.flags, next))
 }
