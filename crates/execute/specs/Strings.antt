@@ -14,7 +14,7 @@ use Rattle.instruction.specs.declared.action.Length.the-variants.{Literal, Regi
 use Rattle.instruction.specs.declared.action.StringOperand.{StringOperand}
 use Rattle.execute.specs.declared.cpu.Cpu.{Cpu}
 use Rattle.execute.specs.declared.string.Stopped.{Stopped}
-use Rattle.execute.specs.Registers.{register, with-register, gone-on}
+use Rattle.execute.specs.Registers.{register, with-register, read-register, gone-on}
 
 -- how many characters: a register's full value
 abbrev pub length-value : Cpu → Length → ℕ
@@ -69,8 +69,21 @@ string-done c k from to i j f next = gone-on (with-register (with-register c 28 
 abbrev pub with-carry : Flags → Bool → Flags
 with-carry f cy = record { cy = cy; ov = f .ov; s = f .s; z = f .z }
 
--- MOVC: as many characters as the shorter string has
+-- MOVC: n characters copied
 unfoldable pub moved : Cpu → Size → ℕ → ℕ → ℕ → ℕ → Program Cpu
 moved c s from to n next =
     copied (byte-count s) from to n >>= λ _.
     give (string-done c (byte-count s) from to n n (c .flags) next)
+
+-- MOVCF: i characters copied, and the low bits of R26 put for each of the others, up to n
+unfoldable pub padded : Cpu → Size → ℕ → ℕ → ℕ → ℕ → ℕ → Program Cpu
+padded c s from to i n next =
+    copied (byte-count s) from to i >>= λ _.
+    filled (byte-count s) (character (byte-count s) to i) (read-register c s 26) (n - i) >>= λ _.
+    give (string-done c (byte-count s) from to i n (c .flags) next)
+
+-- MOVCS: n characters at the most, up to the first that equals the low bits of R26; CY says that none did
+unfoldable pub halted : Cpu → Size → ℕ → ℕ → ℕ → ℕ → Program Cpu
+halted c s from to n next =
+    copied-until (byte-count s) from to (read-register c s 26) n >>= λ st.
+    give (string-done c (byte-count s) from to (st .copied) (st .copied) (with-carry (c .flags) (not (st .met))) next)

@@ -4,7 +4,7 @@ ghost use Prim.Native.Nat.{_*_, _+_, _<_, _≤_, min};
 ghost use Rattle.std.specs.declared.result.Result.the-variants.{Ok};
 ghost use Rattle.number.specs.Sizes.{byte-count};
 ghost use Rattle.bus.specs.Seen.{Runs};
-ghost use Rattle.execute.specs.Strings.{length-value as length-value-is, counted as counted-is, character as character-is, put-character as put-character-is, copy-character as copy-character-is, copied as copied-is, filled as filled-is, stop-step as stop-step-is, copied-until as copied-until-is, string-done as string-done-is, with-carry as with-carry-is, moved as moved-is};
+ghost use Rattle.execute.specs.Strings.{length-value as length-value-is, counted as counted-is, character as character-is, put-character as put-character-is, copy-character as copy-character-is, copied as copied-is, filled as filled-is, stop-step as stop-step-is, copied-until as copied-until-is, string-done as string-done-is, with-carry as with-carry-is, moved as moved-is, padded as padded-is, halted as halted-is};
 use super::cpu::Cpu;
 use bus::Bus;
 use bus::Refusal;
@@ -201,4 +201,44 @@ fn moved<B: Bus>(
 {
     copied(bus, size, from, to, count)?;
     Ok(string_done(cpu, size, from, to, count, count, cpu.flags, next))
+}
+
+// MOVCF: characters copied, then others filled up to the destination's length.
+fn padded<B: Bus>(
+    bus: &mut B,
+    cpu: Cpu,
+    size: Size,
+    from: u32,
+    to: u32,
+    count: u32,
+    length: u32,
+    next: u32,
+) -> Result<Cpu, Refusal>
+    requires { ⌜ count ≤ length ⌝ }
+    ensures { λ r. ⌜ Runs (padded-is cpu size from to count length next) (B·Bus .seen (now (bus .entry))) r (B·Bus .seen (now (bus .exit))) ⌝ }
+{
+    copied(bus, size, from, to, count)?;
+    let at = character(size, to, count);
+    let fill = cpu.read(size, 26);
+    filled(bus, size, at, fill, length - count)?;
+    Ok(string_done(cpu, size, from, to, count, length, cpu.flags, next))
+}
+
+// MOVCS, of so many characters at the most.
+fn halted<B: Bus>(
+    bus: &mut B,
+    cpu: Cpu,
+    size: Size,
+    from: u32,
+    to: u32,
+    count: u32,
+    next: u32,
+) -> Result<Cpu, Refusal>
+    requires { ⌜ count ≤ 128 ⌝ }
+    ensures { λ r. ⌜ Runs (halted-is cpu size from to count next) (B·Bus .seen (now (bus .entry))) r (B·Bus .seen (now (bus .exit))) ⌝ }
+{
+    let stop = cpu.read(size, 26);
+    let end = copied_until(bus, size, from, to, stop, count)?;
+    let flags = with_carry(cpu.flags, !end.met);
+    Ok(string_done(cpu, size, from, to, end.copied, end.copied, flags, next))
 }
