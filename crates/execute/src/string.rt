@@ -1,6 +1,6 @@
 // Strings.
 ghost use mathlib.Core.Path.{_≡_};
-ghost use Prim.Native.Nat.{_*_, _+_, _<_, _≤_, min};
+ghost use Prim.Native.Nat.{_*_, _+_, _-_, _^_, _<_, _≤_, min};
 ghost use Rattle.std.specs.declared.result.Result.the-variants.{Ok};
 ghost use Rattle.number.specs.Sizes.{byte-count};
 ghost use Rattle.bus.specs.Seen.{Runs};
@@ -111,7 +111,7 @@ fn stop_step<B: Bus>(
     i: u32,
     state: Stopped,
 ) -> Result<Stopped, Refusal>
-    requires { ⌜ i < 128 ⌝ }
+    requires { ⌜ i < 2 ^ 32 - 1 ⌝ }
     ensures { λ r. ⌜ Runs (stop-step-is (byte-count size) from to stop i state) (B·Bus .seen (now (bus .entry))) r (B·Bus .seen (now (bus .exit))) ⌝ }
 {
     if state.met {
@@ -140,7 +140,6 @@ fn copied_until<B: Bus>(
     stop: u64,
     count: u32,
 ) -> Result<Stopped, Refusal>
-    requires { ⌜ count ≤ 128 ⌝ }
     ensures { λ r. ⌜ Runs (copied-until-is (byte-count size) from to stop count) (B·Bus .seen (now (bus .entry))) r (B·Bus .seen (now (bus .exit))) ⌝ }
 {
     let mut state = Stopped {
@@ -234,7 +233,6 @@ fn halted<B: Bus>(
     count: u32,
     next: u32,
 ) -> Result<Cpu, Refusal>
-    requires { ⌜ count ≤ 128 ⌝ }
     ensures { λ r. ⌜ Runs (halted-is cpu size from to count next) (B·Bus .seen (now (bus .entry))) r (B·Bus .seen (now (bus .exit))) ⌝ }
 {
     let stop = cpu.read(size, 26);
