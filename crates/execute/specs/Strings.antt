@@ -9,6 +9,8 @@ use Rattle.number.specs.Sizes.{byte-count}
 use Rattle.bus.specs.declared.refusal.Refusal.the-variants.{TooLong}
 use Rattle.bus.specs.Program.{Program, give, refuse, _>>=_, times}
 use Rattle.bus.specs.Wide.{fetch-number, ask-bytes, put-number}
+use Rattle.instruction.specs.declared.operation.StringOperation.{StringOperation}
+use Rattle.instruction.specs.declared.operation.StringOperation.the-variants.{Movc, Movcf, Movcs}
 use Rattle.instruction.specs.declared.action.Length.{Length}
 use Rattle.instruction.specs.declared.action.Length.the-variants.{Literal, Register}
 use Rattle.instruction.specs.declared.action.StringOperand.{StringOperand}
@@ -87,3 +89,9 @@ unfoldable pub halted : Cpu → Size → ℕ → ℕ → ℕ → ℕ → Program
 halted c s from to n next =
     copied-until (byte-count s) from to (read-register c s 26) n >>= λ st.
     give (string-done c (byte-count s) from to (st .copied) (st .copied) (with-carry (c .flags) (not (st .met))) next)
+
+-- the work on m characters at `from` and n at `to`: as many are copied as the shorter string has
+unfoldable pub worked : Cpu → StringOperation → Size → ℕ → ℕ → ℕ → ℕ → ℕ → Program Cpu
+worked c Movc s from to m n next = moved c s from to (min m n) next
+worked c Movcf s from to m n next = padded c s from to (min m n) n next
+worked c Movcs s from to m n next = halted c s from to (min m n) next

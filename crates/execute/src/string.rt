@@ -4,7 +4,7 @@ ghost use Prim.Native.Nat.{_*_, _+_, _-_, _^_, _<_, _≤_, min};
 ghost use Rattle.std.specs.declared.result.Result.the-variants.{Ok};
 ghost use Rattle.number.specs.Sizes.{byte-count};
 ghost use Rattle.bus.specs.Seen.{Runs};
-ghost use Rattle.execute.specs.Strings.{length-value as length-value-is, counted as counted-is, character as character-is, put-character as put-character-is, copy-character as copy-character-is, copied as copied-is, filled as filled-is, stop-step as stop-step-is, copied-until as copied-until-is, string-done as string-done-is, with-carry as with-carry-is, moved as moved-is, padded as padded-is, halted as halted-is};
+ghost use Rattle.execute.specs.Strings.{length-value as length-value-is, counted as counted-is, character as character-is, put-character as put-character-is, copy-character as copy-character-is, copied as copied-is, filled as filled-is, stop-step as stop-step-is, copied-until as copied-until-is, string-done as string-done-is, with-carry as with-carry-is, moved as moved-is, padded as padded-is, halted as halted-is, worked as worked-is};
 use super::cpu::Cpu;
 use bus::Bus;
 use bus::Refusal;
@@ -13,6 +13,7 @@ use bus::fetch_number;
 use bus::put_number;
 use instruction::Length;
 use instruction::StringOperand;
+use instruction::StringOperation;
 use number::flags::Flags;
 use number::width::Size;
 
@@ -239,4 +240,26 @@ fn halted<B: Bus>(
     let end = copied_until(bus, size, from, to, stop, count)?;
     let flags = with_carry(cpu.flags, !end.met);
     Ok(string_done(cpu, size, from, to, end.copied, end.copied, flags, next))
+}
+
+// The work on a source and a destination of known lengths.
+fn worked<B: Bus>(
+    bus: &mut B,
+    cpu: Cpu,
+    operation: StringOperation,
+    size: Size,
+    from: u32,
+    to: u32,
+    m: u32,
+    n: u32,
+    next: u32,
+) -> Result<Cpu, Refusal>
+    ensures { λ r. ⌜ Runs (worked-is cpu operation size from to m n next) (B·Bus .seen (now (bus .entry))) r (B·Bus .seen (now (bus .exit))) ⌝ }
+{
+    let count = lesser(m, n);
+    match operation {
+        StringOperation::Movc => moved(bus, cpu, size, from, to, count, next),
+        StringOperation::Movcf => padded(bus, cpu, size, from, to, count, n, next),
+        StringOperation::Movcs => halted(bus, cpu, size, from, to, count, next),
+    }
 }
