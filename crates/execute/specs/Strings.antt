@@ -17,6 +17,8 @@ use Rattle.instruction.specs.declared.action.StringOperand.{StringOperand}
 use Rattle.execute.specs.declared.cpu.Cpu.{Cpu}
 use Rattle.execute.specs.declared.string.Stopped.{Stopped}
 use Rattle.execute.specs.Registers.{register, with-register, read-register, gone-on}
+use Rattle.execute.specs.Operands.{locate}
+use Rattle.execute.specs.Two.{location-address}
 
 -- how many characters: a register's full value
 abbrev pub length-value : Cpu → Length → ℕ
@@ -95,3 +97,12 @@ unfoldable pub worked : Cpu → StringOperation → Size → ℕ → ℕ → ℕ
 worked c Movc s from to m n next = moved c s from to (min m n) next
 worked c Movcf s from to m n next = padded c s from to (min m n) n next
 worked c Movcs s from to m n next = halted c s from to (min m n) next
+
+-- both lengths first, then both addresses, then the work
+unfoldable pub string-instruction : Cpu → StringOperation → Size → StringOperand → StringOperand → ℕ → Program Cpu
+string-instruction c o s x y next =
+    counted c x >>= λ m.
+    counted c y >>= λ n.
+    locate c (byte-count s) (x .operand) >>= λ p.
+    locate (p .cpu) (byte-count s) (y .operand) >>= λ q.
+    worked (q .cpu) o s (location-address (p .location)) (location-address (q .location)) m n next

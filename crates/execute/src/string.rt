@@ -4,8 +4,10 @@ ghost use Prim.Native.Nat.{_*_, _+_, _-_, _^_, _<_, _≤_, min};
 ghost use Rattle.std.specs.declared.result.Result.the-variants.{Ok};
 ghost use Rattle.number.specs.Sizes.{byte-count};
 ghost use Rattle.bus.specs.Seen.{Runs};
-ghost use Rattle.execute.specs.Strings.{length-value as length-value-is, counted as counted-is, character as character-is, put-character as put-character-is, copy-character as copy-character-is, copied as copied-is, filled as filled-is, stop-step as stop-step-is, copied-until as copied-until-is, string-done as string-done-is, with-carry as with-carry-is, moved as moved-is, padded as padded-is, halted as halted-is, worked as worked-is};
+ghost use Rattle.execute.specs.Strings.{length-value as length-value-is, counted as counted-is, character as character-is, put-character as put-character-is, copy-character as copy-character-is, copied as copied-is, filled as filled-is, stop-step as stop-step-is, copied-until as copied-until-is, string-done as string-done-is, with-carry as with-carry-is, moved as moved-is, padded as padded-is, halted as halted-is, worked as worked-is, string-instruction as string-instruction-is};
 use super::cpu::Cpu;
+use super::operand::locate;
+use super::two::location_address;
 use bus::Bus;
 use bus::Refusal;
 use bus::ask_bytes;
@@ -262,4 +264,25 @@ fn worked<B: Bus>(
         StringOperation::Movcf => padded(bus, cpu, size, from, to, count, n, next),
         StringOperation::Movcs => halted(bus, cpu, size, from, to, count, next),
     }
+}
+
+// A string instruction: both lengths, then both addresses, then the work.
+pub(crate) fn string_instruction<B: Bus>(
+    bus: &mut B,
+    cpu: Cpu,
+    operation: StringOperation,
+    size: Size,
+    source: StringOperand,
+    destination: StringOperand,
+    next: u32,
+) -> Result<Cpu, Refusal>
+    ensures { λ r. ⌜ Runs (string-instruction-is cpu operation size source destination next) (B·Bus .seen (now (bus .entry))) r (B·Bus .seen (now (bus .exit))) ⌝ }
+{
+    let m = counted(bus, cpu, source)?;
+    let n = counted(bus, cpu, destination)?;
+    let p = locate(bus, cpu, size.bytes(), source.operand)?;
+    let q = locate(bus, p.cpu, size.bytes(), destination.operand)?;
+    let from = location_address(p.location);
+    let to = location_address(q.location);
+    worked(bus, q.cpu, operation, size, from, to, m, n, next)
 }
