@@ -4,3 +4,4 @@ pub mod Operations
 pub mod Two
 pub mod One
 pub mod Strings
+pub mod Execute

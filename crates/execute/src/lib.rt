@@ -1,5 +1,6 @@
 // Executing instructions.
 mod cpu;
+mod dispatch;
 mod one;
 mod operand;
 mod operation;
