@@ -42,3 +42,26 @@ fn one_operand<B: Bus>(
         OneOperation::Jsr => calling(bus, cpu, operand, next),
     }
 }
+
+// An action, with the address of the next instruction.
+fn acted<B: Bus>(bus: &mut B, cpu: Cpu, action: Action, next: u32) -> Result<Cpu, Refusal>
+    ensures { λ r. ⌜ Runs (acted-is cpu action next) (B·Bus .seen (now (bus .entry))) r (B·Bus .seen (now (bus .exit))) ⌝ }
+{
+    match action {
+        Action::Two(o, s, t, a, b) => two_operands(bus, cpu, o, s, t, a, b, next),
+        Action::One(o, s, a) => one_operand(bus, cpu, o, s, a, next),
+        Action::Branch(k, d) => Ok(branched(cpu, k, d, next)),
+        Action::Bsr(d) => calling_relative(bus, cpu, d, next),
+        Action::Rsr => returning(bus, cpu),
+        Action::Nop => Ok(cpu.gone_on(cpu.flags, next)),
+        Action::Strings(o, s, x, y) => string_instruction(bus, cpu, o, s, x, y, next),
+    }
+}
+
+// The instruction at PC carried out on a working copy of the registers: what they are then, or the refusal.
+pub fn execute<B: Bus>(bus: &mut B, cpu: Cpu, instruction: Instruction) -> Result<Cpu, Refusal>
+    ensures { λ r. ⌜ Runs (execute-is cpu (instruction .action) (instruction .length)) (B·Bus .seen (now (bus .entry))) r (B·Bus .seen (now (bus .exit))) ⌝ }
+{
+    let next = cpu.pc.wrapping_add(instruction.length());
+    acted(bus, cpu, instruction.action(), next)
+}

@@ -8,6 +8,7 @@ mod string;
 mod two;
 
 pub use cpu::Cpu;
+pub use dispatch::execute;
 pub use one::altering;
 pub use one::branched;
 pub use one::calling;
