@@ -65,7 +65,7 @@ fn one_result(operation: OneOperation, size: Size, flags: Flags, x: u64) -> Resu
 }
 
 // A branch.
-pub fn branched(cpu: Cpu, condition: u8, displacement: i32, next: u32) -> Cpu
+pub(crate) fn branched(cpu: Cpu, condition: u8, displacement: i32, next: u32) -> Cpu
     ensures { λ r. ⌜ r ≡ branched-is cpu condition displacement next ⌝ }
 {
     let target = displaced(cpu.pc, displacement);
@@ -84,7 +84,7 @@ fn pushed<B: Bus>(bus: &mut B, cpu: Cpu, word: u64) -> Result<Cpu, Refusal>
 }
 
 // INC, DEC and TEST.
-pub fn altering<B: Bus>(
+pub(crate) fn altering<B: Bus>(
     bus: &mut B,
     cpu: Cpu,
     operation: OneOperation,
@@ -103,7 +103,12 @@ pub fn altering<B: Bus>(
 }
 
 // PUSH.
-pub fn pushing<B: Bus>(bus: &mut B, cpu: Cpu, operand: Operand, next: u32) -> Result<Cpu, Refusal>
+pub(crate) fn pushing<B: Bus>(
+    bus: &mut B,
+    cpu: Cpu,
+    operand: Operand,
+    next: u32,
+) -> Result<Cpu, Refusal>
     ensures { λ r. ⌜ Runs (pushing-is cpu operand next) (B·Bus .seen (now (bus .entry))) r (B·Bus .seen (now (bus .exit))) ⌝ }
 {
     let p = locate(bus, cpu, 4, operand)?;
@@ -113,7 +118,12 @@ pub fn pushing<B: Bus>(bus: &mut B, cpu: Cpu, operand: Operand, next: u32) -> Re
 }
 
 // POP.
-pub fn popping<B: Bus>(bus: &mut B, cpu: Cpu, operand: Operand, next: u32) -> Result<Cpu, Refusal>
+pub(crate) fn popping<B: Bus>(
+    bus: &mut B,
+    cpu: Cpu,
+    operand: Operand,
+    next: u32,
+) -> Result<Cpu, Refusal>
     ensures { λ r. ⌜ Runs (popping-is cpu operand next) (B·Bus .seen (now (bus .entry))) r (B·Bus .seen (now (bus .exit))) ⌝ }
 {
     let top = cpu.register(31);
@@ -125,7 +135,7 @@ pub fn popping<B: Bus>(bus: &mut B, cpu: Cpu, operand: Operand, next: u32) -> Re
 }
 
 // JMP.
-pub fn jumping<B: Bus>(bus: &mut B, cpu: Cpu, operand: Operand) -> Result<Cpu, Refusal>
+pub(crate) fn jumping<B: Bus>(bus: &mut B, cpu: Cpu, operand: Operand) -> Result<Cpu, Refusal>
     ensures { λ r. ⌜ Runs (jumping-is cpu operand) (B·Bus .seen (now (bus .entry))) r (B·Bus .seen (now (bus .exit))) ⌝ }
 {
     let p = locate(bus, cpu, 1, operand)?;
@@ -133,7 +143,12 @@ pub fn jumping<B: Bus>(bus: &mut B, cpu: Cpu, operand: Operand) -> Result<Cpu, R
 }
 
 // JSR.
-pub fn calling<B: Bus>(bus: &mut B, cpu: Cpu, operand: Operand, next: u32) -> Result<Cpu, Refusal>
+pub(crate) fn calling<B: Bus>(
+    bus: &mut B,
+    cpu: Cpu,
+    operand: Operand,
+    next: u32,
+) -> Result<Cpu, Refusal>
     ensures { λ r. ⌜ Runs (calling-is cpu operand next) (B·Bus .seen (now (bus .entry))) r (B·Bus .seen (now (bus .exit))) ⌝ }
 {
     let p = locate(bus, cpu, 1, operand)?;
@@ -142,7 +157,7 @@ pub fn calling<B: Bus>(bus: &mut B, cpu: Cpu, operand: Operand, next: u32) -> Re
 }
 
 // BSR.
-pub fn calling_relative<B: Bus>(
+pub(crate) fn calling_relative<B: Bus>(
     bus: &mut B,
     cpu: Cpu,
     displacement: i32,
@@ -156,7 +171,7 @@ pub fn calling_relative<B: Bus>(
 }
 
 // RSR.
-pub fn returning<B: Bus>(bus: &mut B, cpu: Cpu) -> Result<Cpu, Refusal>
+pub(crate) fn returning<B: Bus>(bus: &mut B, cpu: Cpu) -> Result<Cpu, Refusal>
     ensures { λ r. ⌜ Runs (returning-is cpu) (B·Bus .seen (now (bus .entry))) r (B·Bus .seen (now (bus .exit))) ⌝ }
 {
     let top = cpu.register(31);

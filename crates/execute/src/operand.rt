@@ -43,7 +43,7 @@ fn base_value(cpu: &Cpu, base: Base) -> u32
 }
 
 // A displacement added to an address, modulo 2^32.
-pub fn displaced(address: u32, displacement: i32) -> u32
+pub(crate) fn displaced(address: u32, displacement: i32) -> u32
     ensures { λ r. ⌜ r ≡ displaced-is address displacement ⌝ }
 {
     address.wrapping_add(displacement.cast_unsigned())
@@ -76,7 +76,12 @@ fn indexed(cpu: &Cpu, address: u32, x: u8, count: u32) -> u32
 }
 
 // Where an operand of so many bytes lies, and the registers that finding it changes.
-pub fn locate<B: Bus>(bus: &mut B, cpu: Cpu, count: u32, operand: Operand) -> Result<Found, Refusal>
+pub(crate) fn locate<B: Bus>(
+    bus: &mut B,
+    cpu: Cpu,
+    count: u32,
+    operand: Operand,
+) -> Result<Found, Refusal>
     ensures { λ r. ⌜ Runs (locate-is cpu count operand) (B·Bus .seen (now (bus .entry))) r (B·Bus .seen (now (bus .exit))) ⌝ }
 {
     match operand {
@@ -127,7 +132,7 @@ pub fn locate<B: Bus>(bus: &mut B, cpu: Cpu, count: u32, operand: Operand) -> Re
 }
 
 // What lies at a location.
-pub fn read_at<B: Bus>(
+pub(crate) fn read_at<B: Bus>(
     bus: &mut B,
     cpu: Cpu,
     size: Size,
@@ -143,7 +148,7 @@ pub fn read_at<B: Bus>(
 }
 
 // Puts a number there.
-pub fn write_at<B: Bus>(
+pub(crate) fn write_at<B: Bus>(
     bus: &mut B,
     cpu: Cpu,
     size: Size,

@@ -120,7 +120,7 @@ fn combined<W: Arithmetic>(
 }
 
 // The result of an instruction of two operands, at its sizes. A doubleword serves moves only.
-pub fn result(
+pub(crate) fn result(
     operation: TwoOperation,
     first: Size,
     second: Size,

@@ -64,7 +64,7 @@ pub(crate) fn left<B: Bus>(
 
 // An instruction of two operands, before the address `next`: the first operand's location, changes and value, then the
 // second's, then the result.
-pub fn two_operands<B: Bus>(
+pub(crate) fn two_operands<B: Bus>(
     bus: &mut B,
     cpu: Cpu,
     operation: TwoOperation,
