@@ -1,4 +1,6 @@
 // Boards: memory as a processor sees it, by a right and a byte for each of the 2^32 addresses.
+#![tactic(auto)]
+
 ghost use Rattle.std.specs.Prelude.{◌≡◌, ℕ, ◌+◌, ◌-◌, ◌*◌, ◌/◌, ◌%◌, ◌^◌, ◌<◌, ◌≤◌, length, slice_index};
 ghost use Rattle.board.specs.declared.Right.{Right};
 ghost use Rattle.board.specs.declared.Right.TheVariants.{NoAccess, ReadOnly, ReadWrite};

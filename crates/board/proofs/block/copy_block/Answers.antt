@@ -2,10 +2,10 @@ use Rattle.std.proofs.Common.{◌∙◌}
 use Rattle.board.proofs.Copies.{turn_copies, turn_stops, turn_ends}
 use Rattle.board.proofs.block.copy_block.Goals as goal
 
-pub returns-in-default : goal.returns-in-default
-returns-in-default g c =
+pub returns-in_default : goal.returns-in_default
+returns-in_default g c =
     let inv = c.loop-i.invariant in
-    record { rights = inv.0; copied = turn_ends _ _ _ _ _ _ _ _ inv.0 c.loop-i-test.true inv.1 c.in-default.ensures.answer }
+    record { rights = inv.0; copied = turn_ends _ _ _ _ _ _ _ _ inv.0 c.loop-i-test.true inv.1 c.in_default.ensures.answer }
 
 pub returns-then-not-store : goal.returns-then-not-store
 returns-then-not-store g c =
