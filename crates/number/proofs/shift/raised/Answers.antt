@@ -9,7 +9,7 @@ returns-then-by-bits g c =
     let w = 8 * g.W.Width.size in
     let by = c.args.by in
     let n = g.W.Width.value c.args.x in
-    let e = c.to-u64.ensures.number in
+    let e = c.to_u64.ensures.number in
     record {
       low = ap (λ m. m * 2 ^ by % 2 ^ 64 % 2 ^ w) e ∙ low_of (n * 2 ^ by) 64 w (omega arith);
       next = ap (λ m. bit w (m * 2 ^ by % 2 ^ 64)) e ∙ bit_low (n * 2 ^ by) 64 w (omega arith);

@@ -9,5 +9,5 @@ returns c =
     let k = c.args.by in
     let h : k % 8 < 8 = omega arith in
     let t = turns 8 n (k % 8) (search rules) h in
-    let e : c.rotate-left.result ≡ turned 8 n (k % 8) = (cc) in
+    let e : c.rotate_left.result ≡ turned 8 n (k % 8) = (cc) in
     record { number = e; less = λ p. e ∙ ap (turned 8 n) (mod-eq_of_lt p) }

@@ -9,5 +9,5 @@ returns c =
     let k = c.args.by in
     let h : k % 16 < 16 = omega arith in
     let t = turns 16 n (k % 16) (search rules) h in
-    let e : c.rotate-left.result ≡ turned 16 n (k % 16) = (cc) in
+    let e : c.rotate_left.result ≡ turned 16 n (k % 16) = (cc) in
     record { number = e; less = λ p. e ∙ ap (turned 16 n) (mod-eq_of_lt p) }

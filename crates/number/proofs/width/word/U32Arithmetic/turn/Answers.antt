@@ -9,5 +9,5 @@ returns c =
     let k = c.args.by in
     let h : k % 32 < 32 = omega arith in
     let t = turns 32 n (k % 32) (search rules) h in
-    let e : c.rotate-left.result ≡ turned 32 n (k % 32) = (cc) in
+    let e : c.rotate_left.result ≡ turned 32 n (k % 32) = (cc) in
     record { number = e; less = λ p. e ∙ ap (turned 32 n) (mod-eq_of_lt p) }
