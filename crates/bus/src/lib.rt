@@ -1,4 +1,6 @@
 // What one step may do with the board and the two sheets.
+#![tactic(auto)]
+
 mod access;
 mod buffer;
 mod line;

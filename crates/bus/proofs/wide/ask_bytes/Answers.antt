@@ -8,11 +8,11 @@ pub loop-i-init : goal.loop-i-init
 loop-i-init g c = times_none _ tt
 
 pub loop-i-preserved : goal.loop-i-preserved
-loop-i-preserved g c = times_more _ tt _ c.loop-i.invariant c.in-ok-ask.ensures
+loop-i-preserved g c = times_more _ tt _ c.loop-i.invariant c.in_ok-ask.ensures
 
-pub returns-in-err-ask : goal.returns-in-err-ask
+pub returns-in_err-ask : goal.returns-in_err-ask
 unfolding ask_bytes
-returns-in-err-ask g c = hands_on c.from-residual.ensures.1 (times_ends _ tt _ _ (omega arith) (times_more _ tt _ c.loop-i.invariant c.in-err-ask.ensures))
+returns-in_err-ask g c = hands_on c.from_residual.ensures.1 (times_ends _ tt _ _ (omega arith) (times_more _ tt _ c.loop-i.invariant c.in_err-ask.ensures))
 
 pub returns : goal.returns
 unfolding ask_bytes

@@ -13,10 +13,10 @@ at_most_eight Halfword = omega arith
 at_most_eight Word = omega arith
 at_most_eight Doubleword = omega arith
 
-pub overflow-add-number : goal.overflow-add-number
-overflow-add-number g c =
+pub overflow_add-number : goal.overflow_add-number
+overflow_add-number g c =
     let m = at_most_eight c.args.size in
-    let l : c.in-ok-byte.byte < 256 = search rules in
+    let l : c.in_ok-byte.byte < 256 = search rules in
     record { fits = sum_fits _ _ c.loop-i.i c.loop-i.invariant.1 l (omega arith) }
 
 pub loop-i-init : goal.loop-i-init
@@ -25,13 +25,13 @@ loop-i-init g c = (times_none _ 0, omega arith)
 pub loop-i-preserved : goal.loop-i-preserved
 loop-i-preserved g c =
     let m = at_most_eight c.args.size in
-    let l : c.in-ok-byte.byte < 256 = search rules in
+    let l : c.in_ok-byte.byte < 256 = search rules in
     let e = next_sum _ _ c.loop-i.i c.loop-i.invariant.1 l (omega arith) in
-    (times_more _ 0 _ c.loop-i.invariant.0 (goes_on _ c.in-ok-byte.ensures (gives (sym e))), rw e (next_low _ _ c.loop-i.i c.loop-i.invariant.1 l (omega arith)))
+    (times_more _ 0 _ c.loop-i.invariant.0 (goes_on _ c.in_ok-byte.ensures (gives (sym e))), rw e (next_low _ _ c.loop-i.i c.loop-i.invariant.1 l (omega arith)))
 
-pub returns-in-err-byte : goal.returns-in-err-byte
+pub returns-in_err-byte : goal.returns-in_err-byte
 unfolding fetch_number
-returns-in-err-byte g c = hands_on c.from-residual.ensures.1 (times_ends _ 0 _ _ (omega arith) (times_more _ 0 _ c.loop-i.invariant.0 (ends_at _ c.in-err-byte.ensures)))
+returns-in_err-byte g c = hands_on c.from_residual.ensures.1 (times_ends _ 0 _ _ (omega arith) (times_more _ 0 _ c.loop-i.invariant.0 (ends_at _ c.in_err-byte.ensures)))
 
 pub returns : goal.returns
 unfolding fetch_number

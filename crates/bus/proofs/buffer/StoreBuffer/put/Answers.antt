@@ -4,8 +4,8 @@ use Rattle.bus.proofs.Buffers.{put_joins, one_run_joins}
 use Rattle.bus.proofs.buffer.StoreBuffer.put.Goals as goal
 use Rattle.bus.proofs.buffer.StoreBuffer.put.Goals.{then-len-eq0, else-len-eq0}
 
-pub returns-then-not-may-join : goal.returns-then-not-may-join
-returns-then-not-may-join c =
+pub returns-then-not-may_join : goal.returns-then-not-may_join
+returns-then-not-may_join c =
     let s = c.args.self.now in
     record { joined = one_run_joins s.base s.len c.args.address c.args.byte s.bytes (search rules) (search rules) (search rules); after = search rules }
 
@@ -14,6 +14,6 @@ returns c =
     let s = c.args.self.now in
     let e : c.if-len-eq0.self ≡ cond (eqb s.len 0) c.args.address s.base = elim c.if-len-eq0.branch [ then-len-eq0 w ↦ grind (arith, nat_tests) | else-len-eq0 w ↦ grind (arith, nat_tests) ] in
     record {
-      joined = λ _. sym c.if-not-may-join.ensures;
-      after = put_joins s.base s.len c.args.address c.args.byte s.bytes (search rules) (search rules) (search rules) (sym c.if-not-may-join.ensures) _ e;
+      joined = λ _. sym c.if-not-may_join.ensures;
+      after = put_joins s.base s.len c.args.address c.args.byte s.bytes (search rules) (search rules) (search rules) (sym c.if-not-may_join.ensures) _ e;
     }
