@@ -1,4 +1,6 @@
 // Instructions as values, and the decoder.
+#![tactic(auto)]
+
 mod action;
 mod bound;
 mod format;

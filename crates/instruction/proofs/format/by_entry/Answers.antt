@@ -10,7 +10,7 @@ returns-in-Unserved g c = by_case (by_entry c.args.pc) c.in-Unserved.is (refuses
 
 pub returns-in-Two : goal.returns-in-Two
 unfolding by_entry
-returns-in-Two g c = by_case (by_entry c.args.pc) c.in-Two.is c.two-operands.ensures
+returns-in-Two g c = by_case (by_entry c.args.pc) c.in-Two.is c.two_operands.ensures
 
 pub returns-in-One : goal.returns-in-One
 unfolding by_entry

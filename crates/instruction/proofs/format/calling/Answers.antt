@@ -6,12 +6,12 @@ use Rattle.instruction.specs.Decode.{operand_at}
 use Rattle.instruction.proofs.Permits.{permits}
 use Rattle.instruction.proofs.format.calling.Goals as goal
 
-pub returns-in-err-d : goal.returns-in-err-d
+pub returns-in_err-d : goal.returns-in_err-d
 unfolding calling
-returns-in-err-d g c = hands_on c.from-residual.ensures.1 (ends_at _ c.in-err-d.ensures)
+returns-in_err-d g c = hands_on c.from_residual.ensures.1 (ends_at _ c.in_err-d.ensures)
 
 pub returns : goal.returns
 unfolding calling
 returns g c =
-    let e : to_z w32 (of_z w32 c.in-ok-d.d) ≡ c.in-ok-d.d = search rules in
-    goes_on _ c.in-ok-d.ensures (gives (cc))
+    let e : to_z w32 (of_z w32 c.in_ok-d.d) ≡ c.in_ok-d.d = search rules in
+    goes_on _ c.in_ok-d.ensures (gives (cc))

@@ -6,10 +6,10 @@ use Rattle.instruction.specs.Decode.{operand_at}
 use Rattle.instruction.proofs.Permits.{permits}
 use Rattle.instruction.proofs.format.length_at.Goals as goal
 
-pub returns-in-err-byte : goal.returns-in-err-byte
+pub returns-in_err-byte : goal.returns-in_err-byte
 unfolding length_at
-returns-in-err-byte g c = hands_on c.from-residual.ensures.1 (ends_at _ c.in-err-byte.ensures)
+returns-in_err-byte g c = hands_on c.from_residual.ensures.1 (ends_at _ c.in_err-byte.ensures)
 
 pub returns : goal.returns
 unfolding length_at
-returns g c = goes_on _ c.in-ok-byte.ensures (answers _ _ c.length_of.ensures)
+returns g c = goes_on _ c.in_ok-byte.ensures (answers _ _ c.length_of.ensures)

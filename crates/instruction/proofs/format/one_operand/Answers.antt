@@ -6,10 +6,10 @@ use Rattle.instruction.specs.Decode.{operand_at}
 use Rattle.instruction.proofs.Permits.{permits}
 use Rattle.instruction.proofs.format.one_operand.Goals as goal
 
-pub returns-in-err-x : goal.returns-in-err-x
+pub returns-in_err-x : goal.returns-in_err-x
 unfolding one_operand
-returns-in-err-x g c = hands_on c.from-residual.ensures.1 (ends_at _ (by_case (operand_at _ _ _) (sym c.access.ensures) c.in-err-x.ensures))
+returns-in_err-x g c = hands_on c.from_residual.ensures.1 (ends_at _ (by_case (operand_at _ _ _) (sym c.access.ensures) c.in_err-x.ensures))
 
 pub returns : goal.returns
 unfolding one_operand
-returns g c = goes_on _ (by_case (operand_at _ _ _) (sym c.access.ensures) c.in-ok-x.ensures) (gives refl)
+returns g c = goes_on _ (by_case (operand_at _ _ _) (sym c.access.ensures) c.in_ok-x.ensures) (gives refl)

@@ -6,14 +6,14 @@ use Rattle.instruction.specs.Decode.{operand_at}
 use Rattle.instruction.proofs.Permits.{permits}
 use Rattle.instruction.proofs.format.register_first.Goals as goal
 
-pub returns-in-err-permit : goal.returns-in-err-permit
+pub returns-in_err-permit : goal.returns-in_err-permit
 unfolding register_first
-returns-in-err-permit g c = hands_on c.from-residual.ensures.1 (ends_at _ (permits _ (c.register-verdict-verdict.ensures ∙ ap (λ a. register_verdict a c.args.pair.first c.args.n) c.first_access.ensures) c.in-err-permit.ensures))
+returns-in_err-permit g c = hands_on c.from_residual.ensures.1 (ends_at _ (permits _ (c.register_verdict-verdict.ensures ∙ ap (λ a. register_verdict a c.args.pair.first c.args.n) c.first_access.ensures) c.in_err-permit.ensures))
 
-pub returns-in-err-x : goal.returns-in-err-x
+pub returns-in_err-x : goal.returns-in_err-x
 unfolding register_first
-returns-in-err-x g c = hands_on c.from-residual-in-err-x.ensures.1 (goes_on _ (permits _ (c.register-verdict-verdict.ensures ∙ ap (λ a. register_verdict a c.args.pair.first c.args.n) c.first_access.ensures) c.in-ok-permit.ensures) (ends_at _ (by_case (operand_at _ _ _) (sym c.second-access-access.ensures) c.in-err-x.ensures)))
+returns-in_err-x g c = hands_on c.from_residual-in_err-x.ensures.1 (goes_on _ (permits _ (c.register_verdict-verdict.ensures ∙ ap (λ a. register_verdict a c.args.pair.first c.args.n) c.first_access.ensures) c.in_ok-permit.ensures) (ends_at _ (by_case (operand_at _ _ _) (sym c.second_access-access.ensures) c.in_err-x.ensures)))
 
 pub returns : goal.returns
 unfolding register_first
-returns g c = goes_on _ (permits _ (c.register-verdict-verdict.ensures ∙ ap (λ a. register_verdict a c.args.pair.first c.args.n) c.first_access.ensures) c.in-ok-permit.ensures) (goes_on _ (by_case (operand_at _ _ _) (sym c.second-access-access.ensures) c.in-ok-x.ensures) (gives refl))
+returns g c = goes_on _ (permits _ (c.register_verdict-verdict.ensures ∙ ap (λ a. register_verdict a c.args.pair.first c.args.n) c.first_access.ensures) c.in_ok-permit.ensures) (goes_on _ (by_case (operand_at _ _ _) (sym c.second_access-access.ensures) c.in_ok-x.ensures) (gives refl))

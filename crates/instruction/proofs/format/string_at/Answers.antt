@@ -6,14 +6,14 @@ use Rattle.instruction.specs.Decode.{operand_at}
 use Rattle.instruction.proofs.Permits.{permits}
 use Rattle.instruction.proofs.format.string_at.Goals as goal
 
-pub returns-in-err-x : goal.returns-in-err-x
+pub returns-in_err-x : goal.returns-in_err-x
 unfolding string_at
-returns-in-err-x g c = hands_on c.from-residual.ensures.1 (ends_at _ c.in-err-x.ensures)
+returns-in_err-x g c = hands_on c.from_residual.ensures.1 (ends_at _ c.in_err-x.ensures)
 
-pub returns-in-err-length : goal.returns-in-err-length
+pub returns-in_err-length : goal.returns-in_err-length
 unfolding string_at
-returns-in-err-length g c = hands_on c.from-residual-in-err-length.ensures.1 (goes_on _ c.in-ok-x.ensures (ends_at _ c.in-err-length.ensures))
+returns-in_err-length g c = hands_on c.from_residual-in_err-length.ensures.1 (goes_on _ c.in_ok-x.ensures (ends_at _ c.in_err-length.ensures))
 
 pub returns : goal.returns
 unfolding string_at
-returns g c = goes_on _ c.in-ok-x.ensures (goes_on _ c.in-ok-length.ensures (gives refl))
+returns g c = goes_on _ c.in_ok-x.ensures (goes_on _ c.in_ok-length.ensures (gives refl))

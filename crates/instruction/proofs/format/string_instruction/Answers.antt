@@ -4,22 +4,22 @@ use Rattle.bus.proofs.Laws.{goes_on, ends_at, gives, refuses, hands_on, answers,
 use Rattle.instruction.specs.Formats.{string_instruction, strings_by}
 use Rattle.instruction.proofs.format.string_instruction.Goals as goal
 
-pub returns-in-err-byte : goal.returns-in-err-byte
+pub returns-in_err-byte : goal.returns-in_err-byte
 unfolding string_instruction
-returns-in-err-byte g c = hands_on c.from-residual.ensures.1 (ends_at _ c.in-err-byte.ensures)
+returns-in_err-byte g c = hands_on c.from_residual.ensures.1 (ends_at _ c.in_err-byte.ensures)
 
-pub returns-in-default : goal.returns-in-default
+pub returns-in_default : goal.returns-in_default
 unfolding string_instruction strings_by
-returns-in-default g c = goes_on _ c.in-ok-byte.ensures (by_case (strings_by c.args.pc c.args.size c.in-ok-byte.byte) (sym c.in-default.ensures) (refuses refl))
+returns-in_default g c = goes_on _ c.in_ok-byte.ensures (by_case (strings_by c.args.pc c.args.size c.in_ok-byte.byte) (sym c.in_default.ensures) (refuses refl))
 
-pub returns-in-err-x : goal.returns-in-err-x
+pub returns-in_err-x : goal.returns-in_err-x
 unfolding string_instruction strings_by
-returns-in-err-x g c = hands_on c.from-residual-in-err-x.ensures.1 (goes_on _ c.in-ok-byte.ensures (by_case (strings_by c.args.pc c.args.size c.in-ok-byte.byte) (sym c.in-Some.ensures) (ends_at _ c.in-err-x.ensures)))
+returns-in_err-x g c = hands_on c.from_residual-in_err-x.ensures.1 (goes_on _ c.in_ok-byte.ensures (by_case (strings_by c.args.pc c.args.size c.in_ok-byte.byte) (sym c.in-Some.ensures) (ends_at _ c.in_err-x.ensures)))
 
-pub returns-in-err-y : goal.returns-in-err-y
+pub returns-in_err-y : goal.returns-in_err-y
 unfolding string_instruction strings_by
-returns-in-err-y g c = hands_on c.from-residual-in-err-y.ensures.1 (goes_on _ c.in-ok-byte.ensures (by_case (strings_by c.args.pc c.args.size c.in-ok-byte.byte) (sym c.in-Some.ensures) (goes_on _ c.in-ok-x.ensures (ends_at _ c.in-err-y.ensures))))
+returns-in_err-y g c = hands_on c.from_residual-in_err-y.ensures.1 (goes_on _ c.in_ok-byte.ensures (by_case (strings_by c.args.pc c.args.size c.in_ok-byte.byte) (sym c.in-Some.ensures) (goes_on _ c.in_ok-x.ensures (ends_at _ c.in_err-y.ensures))))
 
 pub returns : goal.returns
 unfolding string_instruction strings_by
-returns g c = goes_on _ c.in-ok-byte.ensures (by_case (strings_by c.args.pc c.args.size c.in-ok-byte.byte) (sym c.in-Some.ensures) (goes_on _ c.in-ok-x.ensures (goes_on _ c.in-ok-y.ensures (gives refl))))
+returns g c = goes_on _ c.in_ok-byte.ensures (by_case (strings_by c.args.pc c.args.size c.in_ok-byte.byte) (sym c.in-Some.ensures) (goes_on _ c.in_ok-x.ensures (goes_on _ c.in_ok-y.ensures (gives refl))))

@@ -4,37 +4,37 @@ use Rattle.instruction.specs.Decode.{by_mode}
 use Rattle.instruction.proofs.Permits.{permits}
 use Rattle.instruction.proofs.parts.by_mode.Goals as goal
 
-pub returns-in-err-located : goal.returns-in-err-located
+pub returns-in_err-located-in-At : goal.returns-in_err-located-in-At
 unfolding by_mode
-returns-in-err-located g c = hands_on c.from-residual.ensures.1 (by_case (by_mode c.args.at c.args.size c.args.access) c.in-At.is (ends_at _ c.in-err-located.ensures))
+returns-in_err-located-in-At g c = hands_on c.from_residual.ensures.1 (by_case (by_mode c.args.at c.args.size c.args.access) c.in-At.is (ends_at _ c.in_err-located-in-At.ensures))
 
-pub returns-in-ok-located : goal.returns-in-ok-located
+pub returns-in_ok-located-in-At : goal.returns-in_ok-located-in-At
 unfolding by_mode
-returns-in-ok-located g c = by_case (by_mode c.args.at c.args.size c.args.access) c.in-At.is (goes_on _ c.in-ok-located.ensures (gives refl))
+returns-in_ok-located-in-At g c = by_case (by_mode c.args.at c.args.size c.args.access) c.in-At.is (goes_on _ c.in_ok-located-in-At.ensures (gives refl))
 
-pub returns-in-err-permit : goal.returns-in-err-permit
+pub returns-in_err-permit-in-Quick : goal.returns-in_err-permit-in-Quick
 unfolding by_mode
-returns-in-err-permit g c = hands_on c.from-residual-in-err-permit.ensures.1 (by_case (by_mode c.args.at c.args.size c.args.access) c.in-Quick.is (ends_at _ (permits _ c.immediate_verdict.ensures c.in-err-permit.ensures)))
+returns-in_err-permit-in-Quick g c = hands_on c.from_residual-in_err-permit-in-Quick.ensures.1 (by_case (by_mode c.args.at c.args.size c.args.access) c.in-Quick.is (ends_at _ (permits _ c.immediate_verdict.ensures c.in_err-permit-in-Quick.ensures)))
 
-pub returns-in-ok-permit : goal.returns-in-ok-permit
+pub returns-in_ok-permit-in-Quick : goal.returns-in_ok-permit-in-Quick
 unfolding by_mode
-returns-in-ok-permit g c = by_case (by_mode c.args.at c.args.size c.args.access) c.in-Quick.is (goes_on _ (permits _ c.immediate_verdict.ensures c.in-ok-permit.ensures) (gives refl))
+returns-in_ok-permit-in-Quick g c = by_case (by_mode c.args.at c.args.size c.args.access) c.in-Quick.is (goes_on _ (permits _ c.immediate_verdict.ensures c.in_ok-permit-in-Quick.ensures) (gives refl))
 
-pub returns-in-err-permit-2 : goal.returns-in-err-permit-2
+pub returns-in_err-permit-in-Immediate : goal.returns-in_err-permit-in-Immediate
 unfolding by_mode
-returns-in-err-permit-2 g c = hands_on c.from-residual-in-err-permit-2.ensures.1 (by_case (by_mode c.args.at c.args.size c.args.access) c.in-Immediate.is (ends_at _ (permits _ c.immediate-verdict-in-Immediate.ensures c.in-err-permit-2.ensures)))
+returns-in_err-permit-in-Immediate g c = hands_on c.from_residual-in_err-permit-in-Immediate.ensures.1 (by_case (by_mode c.args.at c.args.size c.args.access) c.in-Immediate.is (ends_at _ (permits _ c.immediate_verdict-in-Immediate.ensures c.in_err-permit-in-Immediate.ensures)))
 
-pub returns-in-ok-permit-2 : goal.returns-in-ok-permit-2
+pub returns-in_ok-permit-in-Immediate : goal.returns-in_ok-permit-in-Immediate
 unfolding by_mode
-returns-in-ok-permit-2 g c = by_case (by_mode c.args.at c.args.size c.args.access) c.in-Immediate.is (goes_on _ (permits _ c.immediate-verdict-in-Immediate.ensures c.in-ok-permit-2.ensures) c.immediate.ensures)
+returns-in_ok-permit-in-Immediate g c = by_case (by_mode c.args.at c.args.size c.args.access) c.in-Immediate.is (goes_on _ (permits _ c.immediate_verdict-in-Immediate.ensures c.in_ok-permit-in-Immediate.ensures) c.immediate.ensures)
 
-pub returns-in-err-permit-3 : goal.returns-in-err-permit-3
+pub returns-in_err-permit-in-Register : goal.returns-in_err-permit-in-Register
 unfolding by_mode
-returns-in-err-permit-3 g c = hands_on c.from-residual-in-err-permit-3.ensures.1 (by_case (by_mode c.args.at c.args.size c.args.access) c.in-Register.is (ends_at _ (permits _ c.register_verdict.ensures c.in-err-permit-3.ensures)))
+returns-in_err-permit-in-Register g c = hands_on c.from_residual-in_err-permit-in-Register.ensures.1 (by_case (by_mode c.args.at c.args.size c.args.access) c.in-Register.is (ends_at _ (permits _ c.register_verdict.ensures c.in_err-permit-in-Register.ensures)))
 
-pub returns-in-ok-permit-3 : goal.returns-in-ok-permit-3
+pub returns-in_ok-permit-in-Register : goal.returns-in_ok-permit-in-Register
 unfolding by_mode
-returns-in-ok-permit-3 g c = by_case (by_mode c.args.at c.args.size c.args.access) c.in-Register.is (goes_on _ (permits _ c.register_verdict.ensures c.in-ok-permit-3.ensures) (gives refl))
+returns-in_ok-permit-in-Register g c = by_case (by_mode c.args.at c.args.size c.args.access) c.in-Register.is (goes_on _ (permits _ c.register_verdict.ensures c.in_ok-permit-in-Register.ensures) (gives refl))
 
 pub returns-in-Increment : goal.returns-in-Increment
 unfolding by_mode

@@ -3,17 +3,17 @@ use Rattle.bus.proofs.Laws.{goes_on, ends_at, gives, refuses, hands_on, by_case}
 use Rattle.instruction.specs.Decode.{double_at}
 use Rattle.instruction.proofs.parts.double.Goals as goal
 
-pub returns-in-err-inner : goal.returns-in-err-inner
+pub returns-in_err-inner : goal.returns-in_err-inner
 unfolding double_at
-returns-in-err-inner g c = hands_on c.from-residual.ensures.1 (ends_at _ c.in-err-inner.ensures)
+returns-in_err-inner g c = hands_on c.from_residual.ensures.1 (ends_at _ c.in_err-inner.ensures)
 
-pub returns-in-err-outer : goal.returns-in-err-outer
+pub returns-in_err-outer : goal.returns-in_err-outer
 unfolding double_at
-returns-in-err-outer g c = hands_on c.from-residual-in-err-outer.ensures.1 (goes_on _ c.in-ok-inner.ensures (ends_at _ (rw c.bytes-count.ensures at c.in-err-outer.ensures)))
+returns-in_err-outer g c = hands_on c.from_residual-in_err-outer.ensures.1 (goes_on _ c.in_ok-inner.ensures (ends_at _ (rw c.bytes-count.ensures at c.in_err-outer.ensures)))
 
 pub returns : goal.returns
 unfolding double_at
 returns g c =
-    let i : to_z w32 (of_z w32 c.in-ok-inner.inner) ≡ c.in-ok-inner.inner = search rules in
-    let o : to_z w32 (of_z w32 c.in-ok-outer.outer) ≡ c.in-ok-outer.outer = search rules in
-    goes_on _ c.in-ok-inner.ensures (goes_on _ (rw c.bytes-count.ensures at c.in-ok-outer.ensures) (gives (cc)))
+    let i : to_z w32 (of_z w32 c.in_ok-inner.inner) ≡ c.in_ok-inner.inner = search rules in
+    let o : to_z w32 (of_z w32 c.in_ok-outer.outer) ≡ c.in_ok-outer.outer = search rules in
+    goes_on _ c.in_ok-inner.ensures (goes_on _ (rw c.bytes-count.ensures at c.in_ok-outer.ensures) (gives (cc)))

@@ -4,18 +4,18 @@ use Rattle.instruction.proofs.Shapes.{no_shape}
 use Rattle.instruction.specs.Decode.{indexed_at, indexed_by, shape_of}
 use Rattle.instruction.proofs.parts.indexed.Goals as goal
 
-pub returns-in-err-byte : goal.returns-in-err-byte
+pub returns-in_err-byte : goal.returns-in_err-byte
 unfolding indexed_at
-returns-in-err-byte g c = hands_on c.from-residual.ensures.1 (ends_at _ c.in-err-byte.ensures)
+returns-in_err-byte g c = hands_on c.from_residual.ensures.1 (ends_at _ c.in_err-byte.ensures)
 
-pub returns-in-default : goal.returns-in-default
+pub returns-in_default : goal.returns-in_default
 unfolding indexed_at indexed_by
-returns-in-default g c = goes_on _ c.in-ok-byte.ensures (by_case (indexed_by c.args.at c.args.x) (ap shape_of (sym c.plain_mode.ensures) ∙ no_shape c.plain_mode.result c.in-default.not-At) (refuses refl))
+returns-in_default g c = goes_on _ c.in_ok-byte.ensures (by_case (indexed_by c.args.at c.args.x) (ap shape_of (sym c.plain_mode.ensures) ∙ no_shape c.plain_mode.result c.in_default.not-At) (refuses refl))
 
-pub returns-in-err-located : goal.returns-in-err-located
+pub returns-in_err-located : goal.returns-in_err-located
 unfolding indexed_at indexed_by
-returns-in-err-located g c = hands_on c.from-residual-in-err-located.ensures.1 (goes_on _ c.in-ok-byte.ensures (by_case (λ m. indexed_by c.args.at c.args.x (shape_of m)) (sym c.in-At.ensures) (ends_at _ c.in-err-located.ensures)))
+returns-in_err-located g c = hands_on c.from_residual-in_err-located.ensures.1 (goes_on _ c.in_ok-byte.ensures (by_case (λ m. indexed_by c.args.at c.args.x (shape_of m)) (sym c.in-At.ensures) (ends_at _ c.in_err-located.ensures)))
 
 pub returns : goal.returns
 unfolding indexed_at indexed_by
-returns g c = goes_on _ c.in-ok-byte.ensures (by_case (λ m. indexed_by c.args.at c.args.x (shape_of m)) (sym c.in-At.ensures) (goes_on _ c.in-ok-located.ensures (gives refl)))
+returns g c = goes_on _ c.in_ok-byte.ensures (by_case (λ m. indexed_by c.args.at c.args.x (shape_of m)) (sym c.in-At.ensures) (goes_on _ c.in_ok-located.ensures (gives refl)))

@@ -7,22 +7,22 @@ pub returns-in-Indirect : goal.returns-in-Indirect
 unfolding shape_at
 returns-in-Indirect g c = by_case (shape_at c.args.at) c.in-Indirect.is (gives refl)
 
-pub returns-in-err-d : goal.returns-in-err-d
+pub returns-in_err-d-in-Displaced : goal.returns-in_err-d-in-Displaced
 unfolding shape_at
-returns-in-err-d g c = hands_on c.from-residual.ensures.1 (by_case (shape_at c.args.at) c.in-Displaced.is (ends_at _ c.in-err-d.ensures))
+returns-in_err-d-in-Displaced g c = hands_on c.from_residual.ensures.1 (by_case (shape_at c.args.at) c.in-Displaced.is (ends_at _ c.in_err-d-in-Displaced.ensures))
 
-pub returns-in-err-e : goal.returns-in-err-e
+pub returns-in_err-e-in-Deferred : goal.returns-in_err-e-in-Deferred
 unfolding shape_at
-returns-in-err-e g c = hands_on c.from-residual-in-err-e.ensures.1 (by_case (shape_at c.args.at) c.in-Deferred.is (ends_at _ c.in-err-e.ensures))
+returns-in_err-e-in-Deferred g c = hands_on c.from_residual-in_err-e-in-Deferred.ensures.1 (by_case (shape_at c.args.at) c.in-Deferred.is (ends_at _ c.in_err-e-in-Deferred.ensures))
 
-pub returns-in-ok-d : goal.returns-in-ok-d
+pub returns-in_ok-d-in-Displaced : goal.returns-in_ok-d-in-Displaced
 unfolding shape_at
-returns-in-ok-d g c =
-    let e : to_z w32 (of_z w32 c.in-ok-d.d) ≡ c.in-ok-d.d = search rules in
-    by_case (shape_at c.args.at) c.in-Displaced.is (goes_on _ c.in-ok-d.ensures (gives (cc)))
+returns-in_ok-d-in-Displaced g c =
+    let e : to_z w32 (of_z w32 c.in_ok-d-in-Displaced.d) ≡ c.in_ok-d-in-Displaced.d = search rules in
+    by_case (shape_at c.args.at) c.in-Displaced.is (goes_on _ c.in_ok-d-in-Displaced.ensures (gives (cc)))
 
-pub returns-in-ok-e : goal.returns-in-ok-e
+pub returns-in_ok-e-in-Deferred : goal.returns-in_ok-e-in-Deferred
 unfolding shape_at
-returns-in-ok-e g c =
-    let e : to_z w32 (of_z w32 c.in-ok-e.e) ≡ c.in-ok-e.e = search rules in
-    by_case (shape_at c.args.at) c.in-Deferred.is (goes_on _ c.in-ok-e.ensures (gives (cc)))
+returns-in_ok-e-in-Deferred g c =
+    let e : to_z w32 (of_z w32 c.in_ok-e-in-Deferred.e) ≡ c.in_ok-e-in-Deferred.e = search rules in
+    by_case (shape_at c.args.at) c.in-Deferred.is (goes_on _ c.in_ok-e-in-Deferred.ensures (gives (cc)))
