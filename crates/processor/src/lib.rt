@@ -1,4 +1,6 @@
 // The processor: registers, operands and what operations come to.
+#![tactic(auto)]
+
 mod cpu;
 mod operand;
 mod operation;

@@ -18,4 +18,4 @@ pub returns-in-Deferred : goal.returns-in-Deferred
 unfolding address_of
 returns-in-Deferred g c =
     let e : to_z w32 (of_z w32 c.in-Deferred.e) ≡ c.in-Deferred.e = search rules in
-    by_case (address_of c.args.cpu) c.in-Deferred.is (by_case fetch_pointer (sym (c.displaced-in-Deferred.ensures ∙ (λ i. displaced (c.base-value-in-Deferred.ensures i) (e i)))) c.pointer.ensures)
+    by_case (address_of c.args.cpu) c.in-Deferred.is (by_case fetch_pointer (sym (c.displaced-in-Deferred.ensures ∙ (λ i. displaced (c.base_value-in-Deferred.ensures i) (e i)))) c.pointer.ensures)

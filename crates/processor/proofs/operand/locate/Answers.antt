@@ -12,34 +12,34 @@ pub returns-in-Immediate : goal.returns-in-Immediate
 unfolding locate
 returns-in-Immediate g c = by_case (locate c.args.cpu c.args.count) c.in-Immediate.is (gives refl)
 
-pub returns-in-err-a : goal.returns-in-err-a
+pub returns-in_err-a-in-Memory : goal.returns-in_err-a-in-Memory
 unfolding locate
-returns-in-err-a g c = hands_on c.from-residual.ensures.1 (by_case (locate c.args.cpu c.args.count) c.in-Memory.is (ends_at _ c.in-err-a.ensures))
+returns-in_err-a-in-Memory g c = hands_on c.from_residual.ensures.1 (by_case (locate c.args.cpu c.args.count) c.in-Memory.is (ends_at _ c.in_err-a-in-Memory.ensures))
 
-pub returns-in-ok-a : goal.returns-in-ok-a
+pub returns-in_ok-a-in-Memory : goal.returns-in_ok-a-in-Memory
 unfolding locate
-returns-in-ok-a g c = by_case (locate c.args.cpu c.args.count) c.in-Memory.is (goes_on _ c.in-ok-a.ensures (gives refl))
+returns-in_ok-a-in-Memory g c = by_case (locate c.args.cpu c.args.count) c.in-Memory.is (goes_on _ c.in_ok-a-in-Memory.ensures (gives refl))
 
-pub returns-in-err-b : goal.returns-in-err-b
+pub returns-in_err-b-in-Indexed : goal.returns-in_err-b-in-Indexed
 unfolding locate
-returns-in-err-b g c = hands_on c.from-residual-in-err-b.ensures.1 (by_case (locate c.args.cpu c.args.count) c.in-Indexed.is (ends_at _ c.in-err-b.ensures))
+returns-in_err-b-in-Indexed g c = hands_on c.from_residual-in_err-b-in-Indexed.ensures.1 (by_case (locate c.args.cpu c.args.count) c.in-Indexed.is (ends_at _ c.in_err-b-in-Indexed.ensures))
 
-pub returns-in-ok-b : goal.returns-in-ok-b
+pub returns-in_ok-b-in-Indexed : goal.returns-in_ok-b-in-Indexed
 unfolding locate
-returns-in-ok-b g c = by_case (locate c.args.cpu c.args.count) c.in-Indexed.is (goes_on _ c.in-ok-b.ensures (gives (ap (λ a. found c.args.cpu (InMemory a)) (sym c.indexed.ensures))))
+returns-in_ok-b-in-Indexed g c = by_case (locate c.args.cpu c.args.count) c.in-Indexed.is (goes_on _ c.in_ok-b-in-Indexed.ensures (gives (ap (λ a. found c.args.cpu (InMemory a)) (sym c.indexed.ensures))))
 
-pub returns-in-err-p : goal.returns-in-err-p
+pub returns-in_err-p-in-Double : goal.returns-in_err-p-in-Double
 unfolding locate
-returns-in-err-p g c =
+returns-in_err-p-in-Double g c =
     let e : to_z w32 (of_z w32 c.in-Double.inner) ≡ c.in-Double.inner = search rules in
-    hands_on c.from-residual-in-err-p.ensures.1 (by_case (locate c.args.cpu c.args.count) c.in-Double.is (ends_at _ (by_case fetch_pointer (sym (c.displaced.ensures ∙ (λ i. displaced (c.base_value.ensures i) (e i)))) c.in-err-p.ensures)))
+    hands_on c.from_residual-in_err-p-in-Double.ensures.1 (by_case (locate c.args.cpu c.args.count) c.in-Double.is (ends_at _ (by_case fetch_pointer (sym (c.displaced.ensures ∙ (λ i. displaced (c.base_value.ensures i) (e i)))) c.in_err-p-in-Double.ensures)))
 
-pub returns-in-ok-p : goal.returns-in-ok-p
+pub returns-in_ok-p-in-Double : goal.returns-in_ok-p-in-Double
 unfolding locate
-returns-in-ok-p g c =
+returns-in_ok-p-in-Double g c =
     let e : to_z w32 (of_z w32 c.in-Double.inner) ≡ c.in-Double.inner = search rules in
     let o : to_z w32 (of_z w32 c.in-Double.outer) ≡ c.in-Double.outer = search rules in
-    by_case (locate c.args.cpu c.args.count) c.in-Double.is (goes_on _ (by_case fetch_pointer (sym (c.displaced.ensures ∙ (λ i. displaced (c.base_value.ensures i) (e i)))) c.in-ok-p.ensures) (gives (ap (λ a. found c.args.cpu (InMemory a)) (sym (c.displaced-in-Double.ensures ∙ ap (displaced c.in-ok-p.p) o)))))
+    by_case (locate c.args.cpu c.args.count) c.in-Double.is (goes_on _ (by_case fetch_pointer (sym (c.displaced.ensures ∙ (λ i. displaced (c.base_value.ensures i) (e i)))) c.in_ok-p-in-Double.ensures) (gives (ap (λ a. found c.args.cpu (InMemory a)) (sym (c.displaced-in-Double.ensures ∙ ap (displaced c.in_ok-p-in-Double.p) o)))))
 
 pub returns-in-Increment : goal.returns-in-Increment
 unfolding locate

@@ -5,7 +5,7 @@ use Rattle.processor.proofs.operand.pointer.Goals as goal
 
 pub returns : goal.returns
 returns g c =
-    let h = c.in-ok-word.ensures in
-    let l : c.in-ok-word.word < 2 ^ 32 = of_leads (λ x. x < 256 ^ 4) (fetch_number 4 c.args.address) c.in-ok-word.word (values_number 4 c.args.address) h.leads in
-    let e : c.in-ok-word.word % 2 ^ 32 ≡ c.in-ok-word.word = mod-eq_of_lt l in
+    let h = c.in_ok-word.ensures in
+    let l : c.in_ok-word.word < 2 ^ 32 = of_leads (λ x. x < 256 ^ 4) (fetch_number 4 c.args.address) c.in_ok-word.word (values_number 4 c.args.address) h.leads in
+    let e : c.in_ok-word.word % 2 ^ 32 ≡ c.in_ok-word.word = mod-eq_of_lt l in
     rw e h

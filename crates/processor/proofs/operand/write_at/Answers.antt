@@ -12,10 +12,10 @@ pub returns-in-Constant : goal.returns-in-Constant
 unfolding write_at
 returns-in-Constant g c = by_case (λ l. write_at c.args.cpu c.args.size l c.args.number) c.in-Constant.is (gives refl)
 
-pub returns-in-err-ask-bytes : goal.returns-in-err-ask-bytes
+pub returns-in_err-ask_bytes-in-InMemory : goal.returns-in_err-ask_bytes-in-InMemory
 unfolding write_at
-returns-in-err-ask-bytes g c = hands_on c.from-residual.ensures.1 (by_case (λ l. write_at c.args.cpu c.args.size l c.args.number) c.in-InMemory.is (ends_at _ c.in-err-ask-bytes.ensures))
+returns-in_err-ask_bytes-in-InMemory g c = hands_on c.from_residual.ensures.1 (by_case (λ l. write_at c.args.cpu c.args.size l c.args.number) c.in-InMemory.is (ends_at _ c.in_err-ask_bytes-in-InMemory.ensures))
 
-pub returns-in-ok-ask-bytes : goal.returns-in-ok-ask-bytes
+pub returns-in_ok-ask_bytes-in-InMemory : goal.returns-in_ok-ask_bytes-in-InMemory
 unfolding write_at
-returns-in-ok-ask-bytes g c = by_case (λ l. write_at c.args.cpu c.args.size l c.args.number) c.in-InMemory.is (goes_on _ c.in-ok-ask-bytes.ensures (goes_on _ c.put_number.ensures (gives refl)))
+returns-in_ok-ask_bytes-in-InMemory g c = by_case (λ l. write_at c.args.cpu c.args.size l c.args.number) c.in-InMemory.is (goes_on _ c.in_ok-ask_bytes-in-InMemory.ensures (goes_on _ c.put_number.ensures (gives refl)))
