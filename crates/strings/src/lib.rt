@@ -1,4 +1,6 @@
 // String instructions.
+#![tactic(auto)]
+
 mod string;
 
 pub use string::string_instruction;

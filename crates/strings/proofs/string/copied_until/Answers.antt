@@ -7,11 +7,11 @@ pub loop-i-init : goal.loop-i-init
 loop-i-init g c = times_none _ _
 
 pub loop-i-preserved : goal.loop-i-preserved
-loop-i-preserved g c = times_more _ _ _ c.loop-i.invariant c.in-ok-state.ensures
+loop-i-preserved g c = times_more _ _ _ c.loop-i.invariant c.in_ok-state.ensures
 
-pub returns-in-err-state : goal.returns-in-err-state
+pub returns-in_err-state : goal.returns-in_err-state
 unfolding copied_until
-returns-in-err-state g c = hands_on c.from-residual.ensures.1 (times_ends _ _ _ _ (omega arith) (times_more _ _ _ c.loop-i.invariant c.in-err-state.ensures))
+returns-in_err-state g c = hands_on c.from_residual.ensures.1 (times_ends _ _ _ _ (omega arith) (times_more _ _ _ c.loop-i.invariant c.in_err-state.ensures))
 
 pub returns : goal.returns
 unfolding copied_until

@@ -5,10 +5,10 @@ use Rattle.bus.specs.Wide.{fetch_number}
 use Rattle.strings.specs.Strings.{copy_character}
 use Rattle.strings.proofs.string.copy_character.Goals as goal
 
-pub returns-in-err-v : goal.returns-in-err-v
+pub returns-in_err-v : goal.returns-in_err-v
 unfolding copy_character
-returns-in-err-v g c = hands_on c.from-residual.ensures.1 (ends_at _ (by_case (fetch_number (byte_count c.args.size)) (sym c.character.ensures) c.in-err-v.ensures))
+returns-in_err-v g c = hands_on c.from_residual.ensures.1 (ends_at _ (by_case (fetch_number (byte_count c.args.size)) (sym c.character.ensures) c.in_err-v.ensures))
 
 pub returns : goal.returns
 unfolding copy_character
-returns g c = goes_on _ (by_case (fetch_number (byte_count c.args.size)) (sym c.character.ensures) c.in-ok-v.ensures) c.put_character.ensures
+returns g c = goes_on _ (by_case (fetch_number (byte_count c.args.size)) (sym c.character.ensures) c.in_ok-v.ensures) c.put_character.ensures

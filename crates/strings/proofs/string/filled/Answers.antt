@@ -7,11 +7,11 @@ pub loop-i-init : goal.loop-i-init
 loop-i-init g c = times_none _ tt
 
 pub loop-i-preserved : goal.loop-i-preserved
-loop-i-preserved g c = times_more _ tt _ c.loop-i.invariant c.in-ok-put-character.ensures
+loop-i-preserved g c = times_more _ tt _ c.loop-i.invariant c.in_ok-put_character.ensures
 
-pub returns-in-err-put-character : goal.returns-in-err-put-character
+pub returns-in_err-put_character : goal.returns-in_err-put_character
 unfolding filled
-returns-in-err-put-character g c = hands_on c.from-residual.ensures.1 (times_ends _ tt _ _ (omega arith) (times_more _ tt _ c.loop-i.invariant c.in-err-put-character.ensures))
+returns-in_err-put_character g c = hands_on c.from_residual.ensures.1 (times_ends _ tt _ _ (omega arith) (times_more _ tt _ c.loop-i.invariant c.in_err-put_character.ensures))
 
 pub returns : goal.returns
 unfolding filled

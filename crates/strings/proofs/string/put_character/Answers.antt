@@ -5,12 +5,12 @@ use Rattle.bus.specs.Wide.{fetch_number, ask_bytes, put_number}
 use Rattle.strings.specs.Strings.{put_character}
 use Rattle.strings.proofs.string.put_character.Goals as goal
 
-pub returns-in-err-ask-bytes : goal.returns-in-err-ask-bytes
+pub returns-in_err-ask_bytes : goal.returns-in_err-ask_bytes
 unfolding put_character
-returns-in-err-ask-bytes g c = hands_on c.from-residual.ensures.1 (ends_at _ (by_case (ask_bytes (byte_count c.args.size)) (sym c.character-at.ensures) c.in-err-ask-bytes.ensures))
+returns-in_err-ask_bytes g c = hands_on c.from_residual.ensures.1 (ends_at _ (by_case (ask_bytes (byte_count c.args.size)) (sym c.character-at.ensures) c.in_err-ask_bytes.ensures))
 
 pub returns : goal.returns
 unfolding put_character
 returns g c =
-    goes_on _ (by_case (ask_bytes (byte_count c.args.size)) (sym c.character-at.ensures) c.in-ok-ask-bytes.ensures)
+    goes_on _ (by_case (ask_bytes (byte_count c.args.size)) (sym c.character-at.ensures) c.in_ok-ask_bytes.ensures)
     (by_case (λ a. put_number (byte_count c.args.size) a c.args.value) (sym c.character-at.ensures) c.put_number.ensures)
