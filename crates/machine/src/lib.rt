@@ -1,4 +1,6 @@
 // What a session holds, what may be asked of it, and what a run answers.
+#![tactic(auto)]
+
 mod answer;
 mod held;
 mod questions;
