@@ -1,4 +1,6 @@
 // Executing instructions: one instruction carried out on the registers, and a step.
+#![tactic(auto)]
+
 mod bound;
 mod dispatch;
 mod one;

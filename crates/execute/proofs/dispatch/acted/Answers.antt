@@ -9,7 +9,7 @@ use Rattle.execute.proofs.dispatch.acted.Goals as goal
 
 pub returns-in-Two : goal.returns-in-Two
 unfolding acted
-returns-in-Two g c = by_case (λ a. acted c.args.cpu a c.args.next) c.in-Two.is c.two-operands.ensures
+returns-in-Two g c = by_case (λ a. acted c.args.cpu a c.args.next) c.in-Two.is c.two_operands.ensures
 
 pub returns-in-One : goal.returns-in-One
 unfolding acted

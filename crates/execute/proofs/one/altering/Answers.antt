@@ -10,18 +10,18 @@ use Rattle.execute.specs.One.{altering}
 use Rattle.bus.specs.Wide.{ask_bytes, put_number}
 use Rattle.execute.proofs.one.altering.Goals as goal
 
-pub returns-in-err-p : goal.returns-in-err-p
+pub returns-in_err-p : goal.returns-in_err-p
 unfolding altering
-returns-in-err-p g c = hands_on c.from-residual.ensures.1 (ends_at _ (by_case (λ k. locate c.args.cpu k c.args.operand) (sym c.bytes.ensures) c.in-err-p.ensures))
+returns-in_err-p g c = hands_on c.from_residual.ensures.1 (ends_at _ (by_case (λ k. locate c.args.cpu k c.args.operand) (sym c.bytes.ensures) c.in_err-p.ensures))
 
-pub returns-in-err-x : goal.returns-in-err-x
+pub returns-in_err-x : goal.returns-in_err-x
 unfolding altering
-returns-in-err-x g c = hands_on c.from-residual-in-err-x.ensures.1 (goes_on _ (by_case (λ k. locate c.args.cpu k c.args.operand) (sym c.bytes.ensures) c.in-ok-p.ensures) (ends_at _ (by_case (taken c.in-ok-p.p.cpu c.args.size c.in-ok-p.p.location) (sym c.access-access.ensures) c.in-err-x.ensures)))
+returns-in_err-x g c = hands_on c.from_residual-in_err-x.ensures.1 (goes_on _ (by_case (λ k. locate c.args.cpu k c.args.operand) (sym c.bytes.ensures) c.in_ok-p.ensures) (ends_at _ (by_case (taken c.in_ok-p.p.cpu c.args.size c.in_ok-p.p.location) (sym c.access-access.ensures) c.in_err-x.ensures)))
 
-pub returns-in-err-d : goal.returns-in-err-d
+pub returns-in_err-d : goal.returns-in_err-d
 unfolding altering
-returns-in-err-d g c = hands_on c.from-residual-in-err-d.ensures.1 (goes_on _ (by_case (λ k. locate c.args.cpu k c.args.operand) (sym c.bytes.ensures) c.in-ok-p.ensures) (goes_on _ (by_case (taken c.in-ok-p.p.cpu c.args.size c.in-ok-p.p.location) (sym c.access-access.ensures) c.in-ok-x.ensures) (ends_at _ (by_case (λ n. left c.in-ok-p.p.cpu c.args.size c.in-ok-p.p.location (one_access c.args.operation) n) (sym c.one-result-r.ensures.number) (by_case (λ a. left c.in-ok-p.p.cpu c.args.size c.in-ok-p.p.location a c.one-result-r.result.number) (sym c.access-access.ensures) c.in-err-d.ensures)))))
+returns-in_err-d g c = hands_on c.from_residual-in_err-d.ensures.1 (goes_on _ (by_case (λ k. locate c.args.cpu k c.args.operand) (sym c.bytes.ensures) c.in_ok-p.ensures) (goes_on _ (by_case (taken c.in_ok-p.p.cpu c.args.size c.in_ok-p.p.location) (sym c.access-access.ensures) c.in_ok-x.ensures) (ends_at _ (by_case (λ n. left c.in_ok-p.p.cpu c.args.size c.in_ok-p.p.location (one_access c.args.operation) n) (sym c.one_result-r.ensures.number) (by_case (λ a. left c.in_ok-p.p.cpu c.args.size c.in_ok-p.p.location a c.one_result-r.result.number) (sym c.access-access.ensures) c.in_err-d.ensures)))))
 
 pub returns : goal.returns
 unfolding altering
-returns g c = goes_on _ (by_case (λ k. locate c.args.cpu k c.args.operand) (sym c.bytes.ensures) c.in-ok-p.ensures) (goes_on _ (by_case (taken c.in-ok-p.p.cpu c.args.size c.in-ok-p.p.location) (sym c.access-access.ensures) c.in-ok-x.ensures) (goes_on _ (by_case (λ n. left c.in-ok-p.p.cpu c.args.size c.in-ok-p.p.location (one_access c.args.operation) n) (sym c.one-result-r.ensures.number) (by_case (λ a. left c.in-ok-p.p.cpu c.args.size c.in-ok-p.p.location a c.one-result-r.result.number) (sym c.access-access.ensures) c.in-ok-d.ensures)) (gives (sym (c.gone_on.ensures ∙ ap (λ f. gone_on c.in-ok-d.d f c.args.next) c.one-result-r.ensures.flags)))))
+returns g c = goes_on _ (by_case (λ k. locate c.args.cpu k c.args.operand) (sym c.bytes.ensures) c.in_ok-p.ensures) (goes_on _ (by_case (taken c.in_ok-p.p.cpu c.args.size c.in_ok-p.p.location) (sym c.access-access.ensures) c.in_ok-x.ensures) (goes_on _ (by_case (λ n. left c.in_ok-p.p.cpu c.args.size c.in_ok-p.p.location (one_access c.args.operation) n) (sym c.one_result-r.ensures.number) (by_case (λ a. left c.in_ok-p.p.cpu c.args.size c.in_ok-p.p.location a c.one_result-r.result.number) (sym c.access-access.ensures) c.in_ok-d.ensures)) (gives (sym (c.gone_on.ensures ∙ ap (λ f. gone_on c.in_ok-d.d f c.args.next) c.one_result-r.ensures.flags)))))

@@ -10,14 +10,14 @@ use Rattle.execute.specs.One.{calling}
 use Rattle.bus.specs.Wide.{ask_bytes, put_number}
 use Rattle.execute.proofs.one.calling.Goals as goal
 
-pub returns-in-err-p : goal.returns-in-err-p
+pub returns-in_err-p : goal.returns-in_err-p
 unfolding calling
-returns-in-err-p g c = hands_on c.from-residual.ensures.1 (ends_at _ c.in-err-p.ensures)
+returns-in_err-p g c = hands_on c.from_residual.ensures.1 (ends_at _ c.in_err-p.ensures)
 
-pub returns-in-err-d : goal.returns-in-err-d
+pub returns-in_err-d : goal.returns-in_err-d
 unfolding calling
-returns-in-err-d g c = hands_on c.from-residual-in-err-d.ensures.1 (goes_on _ c.in-ok-p.ensures (ends_at _ c.in-err-d.ensures))
+returns-in_err-d g c = hands_on c.from_residual-in_err-d.ensures.1 (goes_on _ c.in_ok-p.ensures (ends_at _ c.in_err-d.ensures))
 
 pub returns : goal.returns
 unfolding calling
-returns g c = goes_on _ c.in-ok-p.ensures (goes_on _ c.in-ok-d.ensures (gives (sym (c.gone_on.ensures ∙ ap (gone_on c.in-ok-d.d c.args.cpu.flags) c.location_address.ensures))))
+returns g c = goes_on _ c.in_ok-p.ensures (goes_on _ c.in_ok-d.ensures (gives (sym (c.gone_on.ensures ∙ ap (gone_on c.in_ok-d.d c.args.cpu.flags) c.location_address.ensures))))

@@ -12,12 +12,12 @@ use mir.Val.{to_z, of_z}
 use mir.Syntax.{w32}
 use Rattle.execute.proofs.one.calling_relative.Goals as goal
 
-pub returns-in-err-e : goal.returns-in-err-e
+pub returns-in_err-e : goal.returns-in_err-e
 unfolding calling_relative
-returns-in-err-e g c = hands_on c.from-residual.ensures.1 (ends_at _ c.in-err-e.ensures)
+returns-in_err-e g c = hands_on c.from_residual.ensures.1 (ends_at _ c.in_err-e.ensures)
 
 pub returns : goal.returns
 unfolding calling_relative
 returns g c =
     let z : to_z w32 (of_z w32 c.args.displacement) ≡ c.args.displacement = search rules in
-    goes_on _ c.in-ok-e.ensures (gives (sym (c.gone_on.ensures ∙ ap (gone_on c.in-ok-e.e c.args.cpu.flags) (c.displaced-target.ensures ∙ ap (displaced c.args.cpu.pc) z))))
+    goes_on _ c.in_ok-e.ensures (gives (sym (c.gone_on.ensures ∙ ap (gone_on c.in_ok-e.e c.args.cpu.flags) (c.displaced-target.ensures ∙ ap (displaced c.args.cpu.pc) z))))

@@ -10,10 +10,10 @@ use Rattle.execute.specs.One.{jumping}
 use Rattle.bus.specs.Wide.{ask_bytes, put_number}
 use Rattle.execute.proofs.one.jumping.Goals as goal
 
-pub returns-in-err-p : goal.returns-in-err-p
+pub returns-in_err-p : goal.returns-in_err-p
 unfolding jumping
-returns-in-err-p g c = hands_on c.from-residual.ensures.1 (ends_at _ c.in-err-p.ensures)
+returns-in_err-p g c = hands_on c.from_residual.ensures.1 (ends_at _ c.in_err-p.ensures)
 
 pub returns : goal.returns
 unfolding jumping
-returns g c = goes_on _ c.in-ok-p.ensures (gives (sym (c.gone_on.ensures ∙ ap (gone_on c.in-ok-p.p.cpu c.args.cpu.flags) c.location_address.ensures)))
+returns g c = goes_on _ c.in_ok-p.ensures (gives (sym (c.gone_on.ensures ∙ ap (gone_on c.in_ok-p.p.cpu c.args.cpu.flags) c.location_address.ensures)))

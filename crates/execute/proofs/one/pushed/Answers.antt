@@ -6,14 +6,14 @@ use Rattle.processor.specs.Operands.{below}
 use Rattle.execute.specs.One.{pushed}
 use Rattle.execute.proofs.one.pushed.Goals as goal
 
-pub returns-in-err-ask-bytes : goal.returns-in-err-ask-bytes
+pub returns-in_err-ask_bytes : goal.returns-in_err-ask_bytes
 unfolding pushed
-returns-in-err-ask-bytes g c = hands_on c.from-residual.ensures.1 (ends_at _ (by_case (ask_bytes 4) (sym (ap (λ z. below z 4) c.register-top.ensures)) c.in-err-ask-bytes.ensures))
+returns-in_err-ask_bytes g c = hands_on c.from_residual.ensures.1 (ends_at _ (by_case (ask_bytes 4) (sym (ap (λ z. below z 4) c.register-top.ensures)) c.in_err-ask_bytes.ensures))
 
 pub returns : goal.returns
 unfolding pushed
 returns g c =
     let e = ap (λ z. below z 4) c.register-top.ensures in
-    goes_on _ (by_case (ask_bytes 4) (sym e) c.in-ok-ask-bytes.ensures)
+    goes_on _ (by_case (ask_bytes 4) (sym e) c.in_ok-ask_bytes.ensures)
     (goes_on _ (by_case (λ a. put_number 4 a c.args.word) (sym e) c.put_number.ensures)
     (gives (sym (c.with_register.ensures ∙ ap (λ a. with_register c.args.cpu 31 a) e))))

@@ -9,7 +9,7 @@ returns-in-Modify g c = by_case (λ a. left c.args.cpu c.args.size c.args.locati
 
 pub returns-in-Write : goal.returns-in-Write
 unfolding left
-returns-in-Write g c = by_case (λ a. left c.args.cpu c.args.size c.args.location a c.args.number) c.in-Write.is c.write-at-in-Write.ensures
+returns-in-Write g c = by_case (λ a. left c.args.cpu c.args.size c.args.location a c.args.number) c.in-Write.is c.write_at-in-Write.ensures
 
 pub returns-in-Read : goal.returns-in-Read
 unfolding left

@@ -5,11 +5,11 @@ use Rattle.execute.proofs.two.taken.Goals as goal
 
 pub returns-in-Read : goal.returns-in-Read
 unfolding taken
-returns-in-Read g c = by_case (taken c.args.cpu c.args.size c.args.location) c.in-Read.is c.read-at.ensures
+returns-in-Read g c = by_case (taken c.args.cpu c.args.size c.args.location) c.in-Read.is c.read_at.ensures
 
 pub returns-in-Modify : goal.returns-in-Modify
 unfolding taken
-returns-in-Modify g c = by_case (taken c.args.cpu c.args.size c.args.location) c.in-Modify.is c.read-at-in-Modify.ensures
+returns-in-Modify g c = by_case (taken c.args.cpu c.args.size c.args.location) c.in-Modify.is c.read_at-in-Modify.ensures
 
 pub returns-in-Write : goal.returns-in-Write
 unfolding taken

@@ -7,26 +7,26 @@ use Rattle.processor.specs.Operands.{locate}
 use Rattle.execute.specs.Two.{taken, left, two_operands}
 use Rattle.execute.proofs.two.two_operands.Goals as goal
 
-pub returns-in-err-p : goal.returns-in-err-p
+pub returns-in_err-p : goal.returns-in_err-p
 unfolding two_operands
-returns-in-err-p g c = hands_on c.from-residual.ensures.1 (ends_at _ (by_case (λ k. locate c.args.cpu k c.args.a) (sym c.bytes.ensures) c.in-err-p.ensures))
+returns-in_err-p g c = hands_on c.from_residual.ensures.1 (ends_at _ (by_case (λ k. locate c.args.cpu k c.args.a) (sym c.bytes.ensures) c.in_err-p.ensures))
 
-pub returns-in-err-x : goal.returns-in-err-x
+pub returns-in_err-x : goal.returns-in_err-x
 unfolding two_operands
-returns-in-err-x g c = hands_on c.from-residual-in-err-x.ensures.1 (goes_on _ (by_case (λ k. locate c.args.cpu k c.args.a) (sym c.bytes.ensures) c.in-ok-p.ensures) (ends_at _ (by_case (taken c.in-ok-p.p.cpu c.args.s c.in-ok-p.p.location) (sym c.first_access.ensures) c.in-err-x.ensures)))
+returns-in_err-x g c = hands_on c.from_residual-in_err-x.ensures.1 (goes_on _ (by_case (λ k. locate c.args.cpu k c.args.a) (sym c.bytes.ensures) c.in_ok-p.ensures) (ends_at _ (by_case (taken c.in_ok-p.p.cpu c.args.s c.in_ok-p.p.location) (sym c.first_access.ensures) c.in_err-x.ensures)))
 
-pub returns-in-err-q : goal.returns-in-err-q
+pub returns-in_err-q : goal.returns-in_err-q
 unfolding two_operands
-returns-in-err-q g c = hands_on c.from-residual-in-err-q.ensures.1 (goes_on _ (by_case (λ k. locate c.args.cpu k c.args.a) (sym c.bytes.ensures) c.in-ok-p.ensures) (goes_on _ (by_case (taken c.in-ok-p.p.cpu c.args.s c.in-ok-p.p.location) (sym c.first_access.ensures) c.in-ok-x.ensures) (ends_at _ (by_case (λ k. locate c.in-ok-p.p.cpu k c.args.b) (sym c.bytes-2.ensures) c.in-err-q.ensures))))
+returns-in_err-q g c = hands_on c.from_residual-in_err-q.ensures.1 (goes_on _ (by_case (λ k. locate c.args.cpu k c.args.a) (sym c.bytes.ensures) c.in_ok-p.ensures) (goes_on _ (by_case (taken c.in_ok-p.p.cpu c.args.s c.in_ok-p.p.location) (sym c.first_access.ensures) c.in_ok-x.ensures) (ends_at _ (by_case (λ k. locate c.in_ok-p.p.cpu k c.args.b) (sym c.bytes-2.ensures) c.in_err-q.ensures))))
 
-pub returns-in-err-y : goal.returns-in-err-y
+pub returns-in_err-y : goal.returns-in_err-y
 unfolding two_operands
-returns-in-err-y g c = hands_on c.from-residual-in-err-y.ensures.1 (goes_on _ (by_case (λ k. locate c.args.cpu k c.args.a) (sym c.bytes.ensures) c.in-ok-p.ensures) (goes_on _ (by_case (taken c.in-ok-p.p.cpu c.args.s c.in-ok-p.p.location) (sym c.first_access.ensures) c.in-ok-x.ensures) (goes_on _ (by_case (λ k. locate c.in-ok-p.p.cpu k c.args.b) (sym c.bytes-2.ensures) c.in-ok-q.ensures) (ends_at _ (by_case (taken c.in-ok-q.q.cpu c.args.t c.in-ok-q.q.location) (sym c.second-access-access.ensures) c.in-err-y.ensures)))))
+returns-in_err-y g c = hands_on c.from_residual-in_err-y.ensures.1 (goes_on _ (by_case (λ k. locate c.args.cpu k c.args.a) (sym c.bytes.ensures) c.in_ok-p.ensures) (goes_on _ (by_case (taken c.in_ok-p.p.cpu c.args.s c.in_ok-p.p.location) (sym c.first_access.ensures) c.in_ok-x.ensures) (goes_on _ (by_case (λ k. locate c.in_ok-p.p.cpu k c.args.b) (sym c.bytes-2.ensures) c.in_ok-q.ensures) (ends_at _ (by_case (taken c.in_ok-q.q.cpu c.args.t c.in_ok-q.q.location) (sym c.second_access-access.ensures) c.in_err-y.ensures)))))
 
-pub returns-in-err-d : goal.returns-in-err-d
+pub returns-in_err-d : goal.returns-in_err-d
 unfolding two_operands
-returns-in-err-d g c = hands_on c.from-residual-in-err-d.ensures.1 (goes_on _ (by_case (λ k. locate c.args.cpu k c.args.a) (sym c.bytes.ensures) c.in-ok-p.ensures) (goes_on _ (by_case (taken c.in-ok-p.p.cpu c.args.s c.in-ok-p.p.location) (sym c.first_access.ensures) c.in-ok-x.ensures) (goes_on _ (by_case (λ k. locate c.in-ok-p.p.cpu k c.args.b) (sym c.bytes-2.ensures) c.in-ok-q.ensures) (goes_on _ (by_case (taken c.in-ok-q.q.cpu c.args.t c.in-ok-q.q.location) (sym c.second-access-access.ensures) c.in-ok-y.ensures) (ends_at _ (by_case (λ n. left c.in-ok-q.q.cpu c.args.t c.in-ok-q.q.location (second_access c.args.operation) n) (sym c.result-r.ensures.number) (by_case (λ a. left c.in-ok-q.q.cpu c.args.t c.in-ok-q.q.location a c.result-r.result.number) (sym c.second-access-access.ensures) c.in-err-d.ensures)))))))
+returns-in_err-d g c = hands_on c.from_residual-in_err-d.ensures.1 (goes_on _ (by_case (λ k. locate c.args.cpu k c.args.a) (sym c.bytes.ensures) c.in_ok-p.ensures) (goes_on _ (by_case (taken c.in_ok-p.p.cpu c.args.s c.in_ok-p.p.location) (sym c.first_access.ensures) c.in_ok-x.ensures) (goes_on _ (by_case (λ k. locate c.in_ok-p.p.cpu k c.args.b) (sym c.bytes-2.ensures) c.in_ok-q.ensures) (goes_on _ (by_case (taken c.in_ok-q.q.cpu c.args.t c.in_ok-q.q.location) (sym c.second_access-access.ensures) c.in_ok-y.ensures) (ends_at _ (by_case (λ n. left c.in_ok-q.q.cpu c.args.t c.in_ok-q.q.location (second_access c.args.operation) n) (sym c.result-r.ensures.number) (by_case (λ a. left c.in_ok-q.q.cpu c.args.t c.in_ok-q.q.location a c.result-r.result.number) (sym c.second_access-access.ensures) c.in_err-d.ensures)))))))
 
 pub returns : goal.returns
 unfolding two_operands
-returns g c = goes_on _ (by_case (λ k. locate c.args.cpu k c.args.a) (sym c.bytes.ensures) c.in-ok-p.ensures) (goes_on _ (by_case (taken c.in-ok-p.p.cpu c.args.s c.in-ok-p.p.location) (sym c.first_access.ensures) c.in-ok-x.ensures) (goes_on _ (by_case (λ k. locate c.in-ok-p.p.cpu k c.args.b) (sym c.bytes-2.ensures) c.in-ok-q.ensures) (goes_on _ (by_case (taken c.in-ok-q.q.cpu c.args.t c.in-ok-q.q.location) (sym c.second-access-access.ensures) c.in-ok-y.ensures) (goes_on _ (by_case (λ n. left c.in-ok-q.q.cpu c.args.t c.in-ok-q.q.location (second_access c.args.operation) n) (sym c.result-r.ensures.number) (by_case (λ a. left c.in-ok-q.q.cpu c.args.t c.in-ok-q.q.location a c.result-r.result.number) (sym c.second-access-access.ensures) c.in-ok-d.ensures)) (gives (sym (c.gone_on.ensures ∙ ap (λ f. gone_on c.in-ok-d.d f c.args.next) c.result-r.ensures.flags)))))))
+returns g c = goes_on _ (by_case (λ k. locate c.args.cpu k c.args.a) (sym c.bytes.ensures) c.in_ok-p.ensures) (goes_on _ (by_case (taken c.in_ok-p.p.cpu c.args.s c.in_ok-p.p.location) (sym c.first_access.ensures) c.in_ok-x.ensures) (goes_on _ (by_case (λ k. locate c.in_ok-p.p.cpu k c.args.b) (sym c.bytes-2.ensures) c.in_ok-q.ensures) (goes_on _ (by_case (taken c.in_ok-q.q.cpu c.args.t c.in_ok-q.q.location) (sym c.second_access-access.ensures) c.in_ok-y.ensures) (goes_on _ (by_case (λ n. left c.in_ok-q.q.cpu c.args.t c.in_ok-q.q.location (second_access c.args.operation) n) (sym c.result-r.ensures.number) (by_case (λ a. left c.in_ok-q.q.cpu c.args.t c.in_ok-q.q.location a c.result-r.result.number) (sym c.second_access-access.ensures) c.in_ok-d.ensures)) (gives (sym (c.gone_on.ensures ∙ ap (λ f. gone_on c.in_ok-d.d f c.args.next) c.result-r.ensures.flags)))))))
