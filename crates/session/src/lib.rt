@@ -1,4 +1,6 @@
 // A session on a board: preset, start, step, run and close.
+#![tactic(auto)]
+
 mod attempt;
 mod closed;
 mod running;

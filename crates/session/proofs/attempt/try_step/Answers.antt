@@ -6,8 +6,8 @@ use Rattle.session.proofs.attempt.try_step.Goals as goal
 
 pub returns : goal.returns
 returns g c =
-    let h = c.on-bus-outcome.ensures in
-    let e = c.reads·1.given.1.1 (sym h.loan) in
+    let h = c.on_bus-outcome.ensures in
+    let e = c.reads-1.given.1.1 (sym h.loan) in
     let q : c.args.written ≡ c.args.written - 0 = omega arith in
     let b = step_bounded c.args.cpu in
     let l = few c.args.read c.args.reads.now c.requires.0 in
