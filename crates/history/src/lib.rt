@@ -1,4 +1,6 @@
 // Whole lists of calls on a session, and what is promised of each.
+#![tactic(auto)]
+
 mod call;
 mod list;
 mod vouch;
