@@ -1,4 +1,6 @@
 // The bench program: puts a control unit's board together, works on it and prints what it did.
+#![tactic(auto)]
+
 use board::{Board, Cut, MemoryMap, Ram, Right, Rom, SensorPage, copy_block, read_block};
 use bus::{
     Bus, ReadLine, Refusal, StepBus, StoreBuffer, WriteLine, ask_bytes, fetch_number, put_number,

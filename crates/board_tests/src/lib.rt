@@ -1,4 +1,5 @@
 // Examples at the edges of each make of board.
+#![tactic(auto)]
 
 #[cfg(test)]
 mod tests {

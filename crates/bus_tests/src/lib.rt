@@ -1,4 +1,5 @@
 // Examples of what one step may do with the board and the two sheets.
+#![tactic(auto)]
 
 #[cfg(test)]
 mod tests {

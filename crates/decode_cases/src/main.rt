@@ -1,6 +1,8 @@
 // Reads cases from standard input, one to a line, and decodes each. A case is PC BYTES, both hexadecimal; the bytes lie
 // from PC on, past FFFFFFFFh to 0, and no other address has a right. The answer is the instruction, its length and the
 // reads lines that it left, or the refusal with its place and the lines.
+#![tactic(auto)]
+
 use anyhow::anyhow;
 use board::{Board, Cut, Rom};
 use bus::{ReadLine, Refusal, StepBus, StoreBuffer, WriteLine};

@@ -15,6 +15,8 @@
 // with NUMBER and STEP decimal. It tells the outcome, the PC and the flags, every register that differs from the case's
 // start, the lines that the step added to the reads sheet (r) and to the writes sheet (w), and every byte of memory that
 // differs from the case's start (m). A run is ADDRESS:BYTES, lines at successive addresses (and of one step).
+#![tactic(auto)]
+
 use board::{Board, Cut, Ram, Rom};
 use bus::{ReadLine, Refusal, StepBus, StoreBuffer, WriteLine};
 use execute::step;

@@ -1,4 +1,6 @@
 // The bench program: puts a control unit's board together, runs its firmware and prints what came of it.
+#![tactic(auto)]
+
 use board::{Cut, Ram, Rom, SensorPage};
 use std::io;
 

@@ -1,4 +1,5 @@
 // Examples of what a caller may make.
+#![tactic(auto)]
 
 #[cfg(test)]
 mod tests {

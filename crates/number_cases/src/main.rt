@@ -1,6 +1,8 @@
 // Reads cases from standard input, one to a line, and writes what each comes to.
 // A case is OPERATION WIDTH DST SRC FLAGS. DST, SRC and FLAGS are hexadecimal; a count and a place are decimal.
 // Of the answer the first word is the number, and the second the flags: CY, OV, S, Z.
+#![tactic(auto)]
+
 use anyhow::anyhow;
 use number::arithmetic::{Computed, add, and, not, or, subtract, test, xor};
 use number::flags::{Flags, holds};

@@ -1,5 +1,7 @@
 // The calls of a session in their order: set up, preset, started, stepped, run, closed, and asked at every stage. The
 // edits in must-not-build/ break the order, and each must be refused by the compiler.
+#![tactic(auto)]
+
 use board::Ram;
 use bus::{ReadLine, WriteLine};
 use machine::Questions;
