@@ -1,5 +1,5 @@
 -- A number that is put together byte by byte.
-use Rattle.std.proofs.Common.{◌≡◌, ℕ, zero, suc, ◌+◌, ◌*◌, ◌%◌, ◌^◌, ◌<◌, ◌≤◌, sym, refl, ap, ◌∙◌, subst, mul-le-mul_right, mod-eq_of_lt, pow-suc, add-one, arith, pow-add}
+use Rattle.std.proofs.Common.{◌≡◌, ℕ, zero, suc, ◌+◌, ◌*◌, ◌%◌, ◌^◌, ◌<◌, ◌≤◌, sym, refl, ap, ◌∙◌, mul-le-mul_right, mod-eq_of_lt, pow-suc, add-one, arith, pow-add}
 use native.Mathlib.Nat.{pow-le-pow_right}
 
 pow_bytes : (i : ℕ) → 2 ^ (8 * i) ≡ 256 ^ i

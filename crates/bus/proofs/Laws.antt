@@ -1,11 +1,11 @@
 -- The laws by which code is shown to run a program. Layers above use these and never open `runs` or `◌>>=◌`.
-use Rattle.std.proofs.Common.{◌≡◌, ℕ, zero, suc, ◌+◌, ◌^◌, ◌<◌, ◌≤◌, Bool, true, false, cond, List, [], ◌∷◌, ◌++◌, length, take, IsErrAnd, Some, None, Ok, Err, Option, Result, sym, refl, ap, ◌∙◌, subst, inl, inr, le_refl, add-one, arith, length-append}
+use Rattle.std.proofs.Common.{◌≡◌, ℕ, zero, suc, ◌+◌, ◌≤◌, Bool, true, false, cond, List, length, IsErrAnd, Some, None, Ok, Err, Option, Result, sym, refl, ap, ◌∙◌, subst, inl, inr, le_refl, add-one, arith, length-append}
 use Rattle.std.proofs.lemmas.Bool.{cases_lt}
 use Rattle.std.proofs.lemmas.Result.{err_from_is_err_and}
 use Rattle.board.specs.Meaning.{fetched, writable}
 use Rattle.bus.specs.declared.line.ReadLine.{ReadLine}
 use Rattle.bus.specs.declared.refusal.Refusal.{Refusal}
-use Rattle.bus.specs.Buffer.{cells, OneRun}
+use Rattle.bus.specs.Buffer.{OneRun}
 use Rattle.bus.specs.Program.{Program, give, refuse, fetch, ask, put, ◌>>=◌, runs, World, Trail, Outcome, own_byte, fetching, asking, listed, with_line, with_byte, times, Leads, answer}
 use Rattle.bus.specs.Seen.{Extends, Grown, Roomy, Seen, Later, Runs}
 use Rattle.bus.proofs.Lines.{drop_more_same}

@@ -7,7 +7,7 @@ use Rattle.board.specs.Block.{above}
 use Rattle.bus.specs.declared.refusal.Refusal.{Refusal}
 use Rattle.bus.specs.Sheets.{All}
 use Rattle.bus.specs.Buffer.{cells, OneRun}
-use Rattle.bus.specs.Program.{Program, give, refuse, fetch, ask, put, ◌>>=◌, runs, World, Trail, Outcome, own_byte, fetching, asking, listed, with_line, with_byte, times, fetch_byte, ask_byte, put_byte}
+use Rattle.bus.specs.Program.{Program, give, refuse, fetch, ask, put, ◌>>=◌, runs, World, Trail, Outcome, own_byte, fetching, asking, listed, with_line, with_byte, times, fetch_byte, ask_byte}
 use Rattle.bus.specs.Seen.{Roomy}
 use Rattle.bus.specs.Bound.{Filled, unfilled, filled, Next, set_at, Within, Reads, Bounded}
 use Rattle.bus.proofs.Buffers.{cells_push}

@@ -5,8 +5,8 @@ use Rattle.board.specs.Meaning.{fetched, writable}
 use Rattle.bus.specs.declared.line.ReadLine.{ReadLine}
 use Rattle.bus.specs.declared.refusal.Refusal.TheVariants.{NoRight}
 use Rattle.bus.specs.Buffer.{OneRun}
-use Rattle.bus.specs.Program.{Program, give, runs, World, Trail, Outcome, own_byte, fetching, asking, listed, with_line, with_byte, fetch_byte, ask_byte, put_byte, Leads}
-use Rattle.bus.specs.Seen.{Extends, Grown, Roomy, Seen, Later, Runs}
+use Rattle.bus.specs.Program.{runs, Trail, own_byte, fetching, asking, listed, with_line, fetch_byte, ask_byte, put_byte, Leads}
+use Rattle.bus.specs.Seen.{Extends, Grown, Seen, Later, Runs}
 use Rattle.bus.proofs.Laws.{now_on}
 use Rattle.bus.proofs.Trace.{grown_none, extends_none}
 

@@ -1,5 +1,5 @@
 -- What holds of every program, by induction over it.
-use Rattle.std.proofs.Common.{◌≡◌, ℕ, Bool, true, false, cond, ◌||◌, eqb, List, [], ◌∷◌, ◌++◌, Some, None, Ok, Err, Option, sym, refl, ap, ◌∙◌, subst, append_assoc, append-nil, arith}
+use Rattle.std.proofs.Common.{◌≡◌, ℕ, Bool, true, false, ◌||◌, eqb, List, [], ◌∷◌, ◌++◌, Some, None, Option, sym, refl, ap, ◌∙◌, subst, append_assoc, append-nil, arith}
 use Rattle.std.proofs.lemmas.Bool.{or_right, or_left, or_parts, eq-eqb}
 use Rattle.board.specs.declared.Right.{Right}
 use Rattle.board.specs.declared.Right.TheVariants.{NoAccess, ReadOnly, ReadWrite}

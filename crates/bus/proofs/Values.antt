@@ -1,5 +1,5 @@
 -- What holds of the values that a program may give.
-use Rattle.std.proofs.Common.{◌≡◌, ℕ, zero, suc, ◌+◌, ◌*◌, ◌^◌, ◌<◌, ◌≤◌, Bool, true, false, cond, Ok, Err, sym, refl, ap, ◌∙◌, subst, inl, inr, mul-le-mul_right, pow-suc, add-one, arith}
+use Rattle.std.proofs.Common.{◌≡◌, ℕ, zero, suc, ◌^◌, ◌<◌, ◌≤◌, Bool, true, false, cond, Ok, sym, refl, subst, inl, inr, mul-le-mul_right, pow-suc, arith}
 use Rattle.board.specs.Block.{above}
 use Rattle.bus.specs.declared.refusal.Refusal.{Refusal}
 use Rattle.bus.specs.Program.{Program, give, refuse, fetch, ask, put, ◌>>=◌, Leads, times, fetch_byte}

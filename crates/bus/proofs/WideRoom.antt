@@ -1,11 +1,11 @@
 -- Bounds of the accesses to numbers of several bytes.
-use Rattle.std.proofs.Common.{◌≡◌, ℕ, zero, suc, ◌+◌, ◌-◌, ◌*◌, ◌%◌, ◌^◌, ◌<◌, ◌≤◌, Bool, true, false, sym, refl, ap, ◌∙◌, subst, inl, inr, arith}
+use Rattle.std.proofs.Common.{◌≡◌, ℕ, zero, suc, ◌+◌, ◌*◌, ◌<◌, ◌≤◌, true, sym, refl, ap, ◌∙◌, subst, inl, inr, arith}
 use Rattle.std.proofs.lemmas.Bool.{cases_lt}
 use Rattle.board.specs.declared.Right.{Right}
 use Rattle.board.specs.Meaning.{writable}
 use Rattle.board.specs.Block.{above}
 use Rattle.number.specs.Words.{byte_of}
-use Rattle.bus.specs.Program.{Program, give, ◌>>=◌, fetch_byte, ask_byte, put_byte, times}
+use Rattle.bus.specs.Program.{Program, ◌>>=◌, ask_byte, put_byte, times}
 use Rattle.bus.specs.Bound.{Filled, unfilled, filled, Next, set_at, Within, Reads}
 use Rattle.bus.specs.Wide.{fetch_number, ask_bytes, put_number}
 use Rattle.bus.proofs.Room.{within_then, within_at, reads_more, reads_give, reads_fetch, reads_bind, reads_times}

@@ -1,5 +1,5 @@
 -- Lines that name addresses: those of the two sheets, and the bytes that a step has set.
-use Rattle.std.specs.Prelude.{ℕ, Bool, true, false, cond, ◌||◌, List, [], ◌∷◌, ◌==◌}
+use Rattle.std.specs.Prelude.{ℕ, Bool, false, cond, ◌||◌, List, [], ◌∷◌, ◌==◌}
 
 -- whether some line names address a, where `at` tells the address of a line
 abbrev pub names : {L : Type 0} → (L → ℕ) → ℕ → List L → Bool

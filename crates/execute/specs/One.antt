@@ -1,5 +1,5 @@
 -- Instructions of one operand, the stack, and jumps.
-use Rattle.std.specs.Prelude.{ℕ, ◌*◌, ◌%◌, ◌^◌, Bool, true, false, cond, ℤ}
+use Rattle.std.specs.Prelude.{ℕ, ◌%◌, ◌^◌, false, cond, ℤ}
 use Rattle.board.specs.Block.{above}
 use Rattle.number.specs.declared.flags.Flags.{Flags}
 use Rattle.number.specs.declared.width.Size.{Size}

@@ -1,8 +1,7 @@
 -- Instructions of two operands.
-use Rattle.std.specs.Prelude.{ℕ, Bool, true, false, cond}
+use Rattle.std.specs.Prelude.{ℕ}
 use Rattle.number.specs.declared.width.Size.{Size}
 use Rattle.number.specs.Sizes.{byte_count}
-use Rattle.number.specs.Outcomes.{Outcome}
 use Rattle.bus.specs.Program.{Program, give, ◌>>=◌}
 use Rattle.instruction.specs.declared.operation.Access.{Access}
 use Rattle.instruction.specs.declared.operation.Access.TheVariants.{Read, Write, Modify, Address}

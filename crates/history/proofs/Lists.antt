@@ -1,5 +1,5 @@
 -- What the code that carries out a list of calls does is what the list should come to.
-use Rattle.std.proofs.Common.{◌≡◌, ℕ, ◌+◌, ◌<◌, ◌≤◌, min, List, [], ◌∷◌, ◌++◌, map, length, get_or, take, drop, set, sym, refl, ap, ◌∙◌, subst, arith}
+use Rattle.std.proofs.Common.{◌≡◌, ℕ, ◌+◌, ◌<◌, List, [], ◌∷◌, ◌++◌, map, length, get_or, take, drop, set, sym, refl, ap, ◌∙◌, subst, arith}
 use Rattle.std.proofs.lemmas.List.{map_more, take_more_set, drop-set-lt}
 use Rattle.board.specs.declared.Right.{Right}
 use Rattle.bus.specs.declared.line.ReadLine.{ReadLine}
@@ -9,7 +9,7 @@ use Rattle.history.specs.declared.call.Call.{Call}
 use Rattle.history.specs.declared.call.Call.TheVariants.{Preset}
 use Rattle.history.specs.declared.call.Reply.{Reply}
 use Rattle.history.specs.declared.list.Session.{Session}
-use Rattle.session.specs.Calls.{State, state}
+use Rattle.session.specs.Calls.{state}
 use Rattle.history.specs.History.{Point, at, did, after, opening, reached, answered, phase_of, machine_of, point, lent, Follows, Recounts}
 use Rattle.session.proofs.Steps.{stays, then_comes}
 use Rattle.history.proofs.Stands.{after_append, replies_append, stands}

@@ -1,12 +1,12 @@
 -- What the sheets tell of the board.
-use Rattle.std.proofs.Common.{◌≡◌, ℕ, ◌+◌, ◌≤◌, Bool, true, false, cond, ◌||◌, eqb, List, [], ◌∷◌, ◌++◌, length, Some, None, Ok, Err, Option, Result, sym, refl, ap, ◌∙◌, subst, le_refl, arith}
+use Rattle.std.proofs.Common.{◌≡◌, ℕ, ◌+◌, Bool, true, false, cond, ◌||◌, eqb, List, [], ◌∷◌, length, Some, None, Ok, Err, Option, Result, sym, refl, ap, ◌∙◌, le_refl, arith}
 use Rattle.std.proofs.lemmas.Bool.{or_parts}
 use Rattle.std.proofs.lemmas.Bool.Decides.{nat_tests}
 use Rattle.board.specs.declared.Right.{Right}
 use Rattle.board.specs.Meaning.{writable, stored}
 use Rattle.bus.specs.declared.refusal.Refusal.{Refusal}
 use Rattle.bus.specs.declared.line.WriteLine.{WriteLine}
-use Rattle.bus.specs.Sheets.{names, latest, All}
+use Rattle.bus.specs.Sheets.{names, All}
 use Rattle.bus.specs.Program.{Trail, runs}
 use Rattle.bus.specs.Commit.{stores, write_lines}
 use Rattle.bus.proofs.Lines.{latest_append}
@@ -17,7 +17,7 @@ use Rattle.execute.specs.Step.{one_step}
 use Rattle.machine.specs.declared.held.Machine.{Machine}
 use Rattle.history.specs.declared.call.Call.{Call}
 use Rattle.session.specs.Calls.{State, objection, world, trail, concluded, stepped, attempted}
-use Rattle.history.specs.History.{Point, with_machine, after, opening, reached, last_written}
+use Rattle.history.specs.History.{with_machine, opening, reached, last_written}
 use Rattle.execute.proofs.Bounds.{step_bounded}
 use Rattle.history.proofs.Keeps.{after_keeps}
 

@@ -3,11 +3,10 @@ use Rattle.std.proofs.Common.{◌≡◌, ℕ, List, [], ◌∷◌, ◌++◌, sym
 use Rattle.board.specs.declared.Right.{Right}
 use Rattle.bus.specs.Sheets.{All}
 use Rattle.history.specs.declared.call.Call.{Call}
-use Rattle.history.specs.declared.call.Reply.{Reply}
 use Rattle.session.specs.Calls.{State}
-use Rattle.history.specs.History.{Point, did, after, opening, reached, answered, Alike, runs_of, sum, Stands}
-use Rattle.history.proofs.Sound.{Sound, sound}
-use Rattle.history.proofs.Twins.{Twin, Agree, twins}
+use Rattle.history.specs.History.{Point, did, after, opening, reached, answered, Alike, runs_of, Stands}
+use Rattle.history.proofs.Sound.{sound}
+use Rattle.history.proofs.Twins.{twins}
 use Rattle.history.proofs.Sums.{equal_sums}
 
 -- ==== lists of calls, one after another

@@ -1,5 +1,5 @@
 -- Runs of equal sums come to one state, since a refused step, tried again, changes nothing.
-use Rattle.std.proofs.Common.{◌≡◌, ℕ, zero, suc, ◌+◌, Bool, true, false, List, [], ◌∷◌, ◌++◌, Some, None, Ok, Err, Option, Result, sym, refl, ap, ◌∙◌, subst, add-zero, add-suc, arith}
+use Rattle.std.proofs.Common.{◌≡◌, ℕ, zero, suc, ◌+◌, Bool, true, false, List, [], ◌∷◌, Some, None, Ok, Err, Option, Result, sym, refl, ap, ◌∙◌, subst, add-zero, add-suc, arith}
 use Rattle.board.specs.declared.Right.{Right}
 use Rattle.bus.specs.declared.refusal.Refusal.{Refusal}
 use Rattle.bus.specs.Program.{Trail, runs}
@@ -7,7 +7,6 @@ use Rattle.bus.proofs.Trace.{again, with_reads}
 use Rattle.processor.specs.declared.cpu.Cpu.{Cpu}
 use Rattle.execute.specs.Step.{one_step}
 use Rattle.machine.specs.declared.answer.Answer.{Answer}
-use Rattle.history.specs.declared.call.Call.{Call}
 use Rattle.history.specs.declared.call.Call.TheVariants.{Run}
 use Rattle.session.specs.Calls.{State, short, objection, world, trail, concluded, stepped, attempted, counted, further, tries, unless_short, ran}
 use Rattle.history.specs.History.{Phase, setting_up, running, closed, Point, at, did, after, runs_of, sum}

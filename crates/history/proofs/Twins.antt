@@ -18,7 +18,7 @@ use Rattle.history.specs.declared.call.Call.TheVariants.{Preset, Start, Step, Ru
 use Rattle.history.specs.declared.call.Reply.{Reply}
 use Rattle.history.specs.declared.call.Reply.TheVariants.{Ran}
 use Rattle.session.specs.Calls.{State, short, objection, world, trail, concluded, stepped, attempted, counted, further, tries, unless_short, ran}
-use Rattle.history.specs.History.{Phase, setting_up, running, closed, Point, at, with_machine, set_up, go_on, did, after, opening, reached, answered}
+use Rattle.history.specs.History.{Phase, setting_up, running, closed, Point, at, with_machine, set_up, go_on, did, after, opening, reached}
 use Rattle.history.proofs.Keeps.{after_keeps}
 use Rattle.history.proofs.Sound.{Sound, of_write, last_named, last_unnamed, held_after, sound_try, sound_change, sound_opening}
 

@@ -1,5 +1,5 @@
 -- The worked steps, by computing what the definitions come to.
-use Rattle.std.proofs.Common.{◌∷◌, refl}
+use Rattle.std.proofs.Common.{refl}
 use Rattle.bus.specs.Sheets.{All}
 use Rattle.bus.specs.Program.{◌>>=◌, runs, times}
 use Rattle.bus.specs.Wide.{fetch_number, ask_bytes, put_number}

@@ -1,5 +1,5 @@
 -- Whole lists of calls, and what stands of each.
-use Rattle.std.specs.Prelude.{◌≡◌, ℕ, ◌+◌, ◌≤◌, min, List, [], ◌∷◌, ◌++◌, map, length, take, Ok, Err, Result, ◌≢◌}
+use Rattle.std.specs.Prelude.{◌≡◌, ℕ, ◌+◌, min, List, [], ◌∷◌, ◌++◌, map, length, take, Ok, Err, Result, ◌≢◌}
 use Rattle.board.specs.declared.Right.{Right}
 use Rattle.board.specs.declared.Right.TheVariants.{NoAccess}
 use Rattle.bus.specs.declared.refusal.Refusal.{Refusal}

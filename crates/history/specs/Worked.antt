@@ -1,5 +1,5 @@
 -- Worked steps: small jobs on a RAM of 256 bytes from 1000h on, and what the written rules make of each.
-use Rattle.std.specs.Prelude.{◌≡◌, ℕ, ◌-◌, Bool, true, false, cond, List, [], ◌∷◌, ◌++◌, map, length, replicate}
+use Rattle.std.specs.Prelude.{◌≡◌, ℕ, Bool, true, false, cond, List, [], ◌∷◌, ◌++◌, map, length, replicate}
 use Rattle.board.specs.declared.Right.{Right}
 use Rattle.board.specs.declared.Right.TheVariants.{ReadWrite}
 use Rattle.board.specs.Meaning.{covers, over, held}

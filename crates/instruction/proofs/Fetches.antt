@@ -1,5 +1,5 @@
 -- How many bytes the decoder fetches at the most.
-use Rattle.std.proofs.Common.{◌≡◌, ℕ, ◌+◌, ◌*◌, ◌%◌, ◌^◌, ◌<◌, ◌≤◌, Bool, true, false, cond, ◌&&◌, eqb, ltb, Some, None, Ok, Err, Option, Result, refl, arith}
+use Rattle.std.proofs.Common.{◌≡◌, ℕ, ◌+◌, ◌%◌, ◌≤◌, Bool, true, eqb, ltb, Some, None, Ok, Err, Option, Result, refl, arith}
 use Rattle.std.proofs.lemmas.Bool.{and_parts}
 use Rattle.board.specs.Block.{above}
 use Rattle.number.specs.declared.width.Size.{Size}
@@ -7,9 +7,8 @@ use Rattle.number.specs.declared.width.Size.TheVariants.{Halfword}
 use Rattle.number.specs.Sizes.{byte_count}
 use Rattle.number.specs.Words.{bit}
 use Rattle.bus.specs.declared.refusal.Refusal.{Refusal}
-use Rattle.bus.specs.Program.{Program, give, refuse, ◌>>=◌, fetch_byte, answer}
+use Rattle.bus.specs.Program.{Program, ◌>>=◌, answer}
 use Rattle.bus.specs.Bound.{Reads}
-use Rattle.bus.specs.Wide.{fetch_number}
 use Rattle.bus.proofs.Room.{reads_give, reads_refuse, reads_fetch, reads_bind, reads_more, reads_if}
 use Rattle.bus.proofs.WideRoom.{reads_number}
 use Rattle.instruction.specs.declared.operation.Access.{Access}

@@ -1,5 +1,5 @@
 -- What the decoder gives may be made: operands.
-use Rattle.std.proofs.Common.{◌≡◌, ℕ, zero, suc, ◌+◌, ◌-◌, ◌*◌, ◌/◌, ◌%◌, ◌^◌, ◌<◌, ◌≤◌, Bool, true, false, cond, not, ◌&&◌, ◌||◌, eqb, ltb, leb, List, [], ◌∷◌, get_or, ℤ, Some, None, Option, sym, refl, ap, ◌∙◌, subst, inl, inr, lt_of_le_of_lt, arith}
+use Rattle.std.proofs.Common.{◌≡◌, ℕ, zero, suc, ◌+◌, ◌-◌, ◌/◌, ◌%◌, ◌^◌, ◌<◌, ◌≤◌, Bool, true, false, cond, ◌&&◌, ltb, List, [], ◌∷◌, get_or, Some, None, Option, sym, refl, ap, ◌∙◌, subst, inl, inr, lt_of_le_of_lt, arith}
 use native.Mathlib.Nat.{mod-le}
 use Rattle.std.proofs.lemmas.Bool.{lt-ltb, ltb-true, and_parts, cases_Bool}
 use Rattle.board.specs.Block.{above}
@@ -7,15 +7,12 @@ use Rattle.number.specs.declared.width.Size.{Size}
 use Rattle.number.specs.declared.width.Size.TheVariants.{Byte, Halfword, Word, Doubleword}
 use Rattle.number.specs.Sizes.{byte_count}
 use Rattle.bus.specs.Sheets.{All}
-use Rattle.bus.specs.Program.{Program, give, refuse, fetch, ask, put, ◌>>=◌, fetch_byte, answer}
+use Rattle.bus.specs.Program.{Program, give, refuse, fetch, ask, put}
 use Rattle.bus.specs.Bound.{Gives}
-use Rattle.bus.specs.Wide.{fetch_number}
-use Rattle.bus.proofs.Values.{values_bind, values_weaken, values_give, values_refuse, values_fetch, values_number}
+use Rattle.bus.proofs.Values.{values_bind, values_give, values_refuse, values_fetch, values_number}
 use Rattle.instruction.specs.declared.operation.Access.{Access}
 use Rattle.instruction.specs.declared.operation.Access.TheVariants.{Read, Write, Modify, Address as AddressOnly}
 use Rattle.instruction.specs.declared.operand.Base.{Base}
-use Rattle.instruction.specs.declared.operand.Base.TheVariants.{Register as On, Pc, Zero}
-use Rattle.instruction.specs.declared.operand.Operand.TheVariants.{Immediate as immediate, Register as register}
 use Rattle.instruction.specs.declared.mode.Shape.{Shape}
 use Rattle.instruction.specs.declared.mode.Shape.TheVariants.{Indirect, Displaced, Deferred}
 use Rattle.instruction.specs.declared.mode.Mode.{Mode}
@@ -25,7 +22,7 @@ use Rattle.instruction.specs.declared.mode.Verdict.TheVariants.{Permitted, Forbi
 use Rattle.instruction.specs.declared.parts.Located.{Located}
 use Rattle.instruction.specs.declared.parts.Part.{Part}
 use Rattle.instruction.specs.Modes.{list, listed_mode, plain_modes, plain_mode, register_modes, register_mode, mode_of, immediate_verdict, register_verdict}
-use Rattle.instruction.specs.Decode.{displacement, shape_at, judged, permit, shape_of, indexed_by, indexed_at, double_at, immediate_at, by_mode, operand_at}
+use Rattle.instruction.specs.Decode.{displacement, shape_at, permit, shape_of, indexed_by, indexed_at, double_at, immediate_at, by_mode, operand_at}
 use Rattle.instruction.specs.Lawful.{base_named, address_named, operand_named, writes, is_immediate, is_permitted, operand_taken}
 
 -- ==== modes

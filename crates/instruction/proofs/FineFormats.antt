@@ -1,7 +1,7 @@
 -- What the decoder gives may be made: whole instructions.
-use Rattle.std.proofs.Common.{◌≡◌, ℕ, zero, suc, ◌+◌, ◌-◌, ◌*◌, ◌%◌, ◌^◌, ◌<◌, ◌≤◌, Bool, true, false, cond, not, ◌&&◌, ◌||◌, eqb, ltb, leb, List, [], ◌∷◌, ℤ, pos, negsuc, ◌-ℤ◌, Some, None, Ok, Err, Option, sym, refl, ap, ◌∙◌, subst, inl, inr, arith}
+use Rattle.std.proofs.Common.{◌≡◌, ℕ, ◌+◌, ◌-◌, ◌%◌, ◌^◌, ◌<◌, ◌≤◌, Bool, true, false, cond, not, ◌&&◌, eqb, ltb, leb, List, [], ◌∷◌, pos, negsuc, ◌-ℤ◌, Some, None, Ok, Err, Option, sym, refl, ap, ◌∙◌, subst, inl, inr, arith}
 use Rattle.std.proofs.lemmas.Int.{ints}
-use Rattle.std.proofs.lemmas.Bool.{lt-ltb, le-ltb, le-leb, ltb-true, eqb-true, and_parts, cases_Bool, cases_lt}
+use Rattle.std.proofs.lemmas.Bool.{lt-ltb, le-ltb, le-leb, ltb-true, and_parts, cases_Bool, cases_lt}
 use Rattle.board.specs.Block.{above}
 use Rattle.number.specs.declared.width.Size.{Size}
 use Rattle.number.specs.declared.width.Size.TheVariants.{Byte, Halfword, Word, Doubleword}
@@ -9,11 +9,10 @@ use Rattle.number.specs.Sizes.{byte_count}
 use Rattle.number.specs.Words.{signed, fits, bit}
 use Rattle.bus.specs.declared.refusal.Refusal.TheVariants.{BadLengthByte}
 use Rattle.bus.specs.Buffer.{offset}
-use Rattle.bus.specs.Program.{Program, give, refuse, ◌>>=◌, fetch_byte, answer}
+use Rattle.bus.specs.Program.{answer}
 use Rattle.bus.specs.Bound.{Gives}
 use Rattle.bus.specs.Wide.{fetch_number}
-use Rattle.bus.proofs.Values.{values_bind, values_weaken, values_give, values_refuse, values_fetch, values_if}
-use Rattle.instruction.specs.declared.operation.Access.{Access}
+use Rattle.bus.proofs.Values.{values_bind, values_give, values_refuse, values_fetch, values_if}
 use Rattle.instruction.specs.declared.operation.Access.TheVariants.{Address as AddressOnly}
 use Rattle.instruction.specs.declared.operation.TwoOperation.{TwoOperation}
 use Rattle.instruction.specs.declared.operation.OneOperation.{OneOperation}
@@ -22,16 +21,15 @@ use Rattle.instruction.specs.declared.opcode.Entry.{Entry}
 use Rattle.instruction.specs.declared.opcode.Entry.TheVariants.{Unserved, Two, One, Branch, Bsr, Rsr, Nop, Strings}
 use Rattle.instruction.specs.declared.operand.Operand.{Operand}
 use Rattle.instruction.specs.declared.operand.Operand.TheVariants.{Register as register}
-use Rattle.instruction.specs.declared.action.Action.TheVariants.{Two as two, One as one, Branch as branch, Bsr as bsr, Strings as strings}
+use Rattle.instruction.specs.declared.action.Action.TheVariants.{Two as two}
 use Rattle.instruction.specs.declared.action.Length.{Length}
 use Rattle.instruction.specs.declared.action.Length.TheVariants.{Literal, Register as InRegister}
-use Rattle.instruction.specs.declared.parts.Part.{Part}
 use Rattle.instruction.specs.declared.format.Decoded.{Decoded}
 use Rattle.instruction.specs.declared.format.StringPart.{StringPart}
 use Rattle.instruction.specs.Operations.{first_access, second_access, one_access}
 use Rattle.instruction.specs.Modes.{register_verdict}
 use Rattle.instruction.specs.Opcodes.{served, look_up, entry}
-use Rattle.instruction.specs.Decode.{sign_extended, displacement, permit, operand_at}
+use Rattle.instruction.specs.Decode.{sign_extended, displacement}
 use Rattle.instruction.specs.Formats.{register_first, register_second, two_modes, two_by, two_operands, one_operand, branching, calling, length_of, length_at, string_at, string_operation, strings_by, string_instruction, by_entry, decode}
 use Rattle.instruction.specs.Lawful.{operand_named, length_named, string_named, writes, is_immediate, is_permitted, operand_taken, sizes_served, size_served, length_taken, lawful}
 use Rattle.instruction.proofs.Fine.{Taken, operand_fine, permit_fine, not_written, above_above, values_any}

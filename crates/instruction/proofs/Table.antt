@@ -1,9 +1,8 @@
 -- The rule of the opcode table, computed once over all of its entries.
-use Rattle.std.proofs.Common.{◌≡◌, ℕ, ◌<◌, List, [], ◌∷◌, map, length, get_or, sym, refl, ap, ◌∙◌, arith}
+use Rattle.std.proofs.Common.{◌≡◌, ℕ, ◌<◌, List, map, length, get_or, sym, ap, ◌∙◌, arith}
 use Rattle.std.specs.List.{range_with_len}
 use Rattle.std.proofs.lemmas.List.{get_or-map}
 use Rattle.std.proofs.lemmas.List.FromFn.{get_or-map-range_with_len}
-use Rattle.instruction.specs.declared.opcode.Entry.{Entry}
 use Rattle.instruction.specs.declared.opcode.Entry.TheVariants.{Unserved}
 use Rattle.instruction.specs.Opcodes.{entry, of_number}
 

@@ -1,11 +1,11 @@
 -- The decoder: which instruction the bytes from an address on are, fetched one by one in rising order. A refusal falls at the first byte that shows it.
-use Rattle.std.specs.Prelude.{ℕ, ◌%◌, ◌^◌, Bool, true, false, cond, eqb, ltb, ℤ, Some, None, Ok, Err, Option, Result}
+use Rattle.std.specs.Prelude.{ℕ, ◌%◌, ◌^◌, Bool, ℤ, Some, None, Ok, Err, Option, Result}
 use Rattle.board.specs.Block.{above}
 use Rattle.number.specs.declared.width.Size.{Size}
 use Rattle.number.specs.declared.width.Size.TheVariants.{Byte, Halfword, Word, Doubleword}
 use Rattle.number.specs.Sizes.{byte_count}
-use Rattle.number.specs.Words.{signed, bit}
-use Rattle.bus.specs.declared.refusal.Refusal.TheVariants.{NotServed, ReservedEncoding, ForbiddenMode, BadLengthByte}
+use Rattle.number.specs.Words.{signed}
+use Rattle.bus.specs.declared.refusal.Refusal.TheVariants.{ReservedEncoding, ForbiddenMode}
 use Rattle.bus.specs.Program.{Program, give, refuse, ◌>>=◌, fetch_byte, answer}
 use Rattle.bus.specs.declared.refusal.Refusal.{Refusal}
 use Rattle.bus.specs.Wide.{fetch_number}

@@ -1,5 +1,5 @@
 -- The formats of instructions. PC is the address of the first byte.
-use Rattle.std.specs.Prelude.{ℕ, ◌%◌, Bool, true, false, cond, Some, None, Ok, Err, Option, Result, ◌==◌, nat_lt}
+use Rattle.std.specs.Prelude.{ℕ, ◌%◌, Bool, cond, Some, None, Ok, Err, Option, Result, ◌==◌, nat_lt}
 use Rattle.board.specs.Block.{above}
 use Rattle.number.specs.declared.width.Size.{Size}
 use Rattle.number.specs.declared.width.Size.TheVariants.{Halfword}

@@ -1,5 +1,5 @@
 -- Which instructions may be made, by the decoder or a caller.
-use Rattle.std.specs.Prelude.{ℕ, ◌*◌, ◌^◌, Bool, true, false, cond, not, ◌&&◌, ◌||◌, ℤ, Some, None, Option, ◌==◌, nat_le, nat_lt}
+use Rattle.std.specs.Prelude.{ℕ, ◌^◌, Bool, true, false, cond, not, ◌&&◌, Some, None, Option, ◌==◌, nat_le, nat_lt}
 use Rattle.number.specs.declared.width.Size.{Size}
 use Rattle.number.specs.Sizes.{byte_count}
 use Rattle.number.specs.Words.{fits}

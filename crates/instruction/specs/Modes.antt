@@ -4,9 +4,7 @@ use Rattle.number.specs.declared.width.Size.{Size}
 use Rattle.number.specs.declared.width.Size.TheVariants.{Byte, Halfword, Word, Doubleword}
 use Rattle.instruction.specs.declared.operation.Access.{Access}
 use Rattle.instruction.specs.declared.operation.Access.TheVariants.{Read, Write, Modify, Address}
-use Rattle.instruction.specs.declared.operand.Base.{Base}
 use Rattle.instruction.specs.declared.operand.Base.TheVariants.{Register as On, Pc, Zero}
-use Rattle.instruction.specs.declared.mode.Shape.{Shape}
 use Rattle.instruction.specs.declared.mode.Shape.TheVariants.{Indirect, Displaced, Deferred}
 use Rattle.instruction.specs.declared.mode.Mode.{Mode}
 use Rattle.instruction.specs.declared.mode.Mode.TheVariants.{At, Quick, Immediate, Register, Increment, Decrement, Double, Index, Reserved}

@@ -1,5 +1,5 @@
 -- There is no register above 31.
-use Rattle.std.proofs.Common.{◌≡◌, ℕ, ◌≤◌, length, set, sym, ◌∙◌, arith}
+use Rattle.std.proofs.Common.{◌≡◌, ℕ, ◌≤◌, length, sym, ◌∙◌, arith}
 use Rattle.std.proofs.lemmas.List.{get_or_past, set_past, length-set}
 use Rattle.processor.specs.declared.cpu.Cpu.{Cpu}
 use Rattle.processor.specs.Registers.{register, with_register}

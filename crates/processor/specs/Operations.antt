@@ -1,8 +1,8 @@
 -- What operations come to, as numbers and flags.
-use Rattle.std.specs.Prelude.{ℕ, ◌*◌, ◌%◌, ◌^◌, Bool, true, false, ℤ}
+use Rattle.std.specs.Prelude.{ℕ, ◌*◌, ◌%◌, ◌^◌, false}
 use Rattle.number.specs.declared.flags.Flags.{Flags}
 use Rattle.number.specs.Words.{signed, residue}
-use Rattle.number.specs.Outcomes.{Outcome, added, subtracted, anded, ored, xored, inverted, tested, shifted, arithmetic_shifted, rotated}
+use Rattle.number.specs.Outcomes.{Outcome, added, subtracted, anded, ored, xored, inverted, shifted, arithmetic_shifted, rotated}
 use Rattle.number.specs.declared.width.Size.{Size}
 use Rattle.number.specs.declared.width.Size.TheVariants.{Byte, Halfword, Word, Doubleword}
 use Rattle.number.specs.Sizes.{byte_count}

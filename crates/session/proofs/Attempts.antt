@@ -1,5 +1,5 @@
 -- A step tried on its bus comes to what the step's program comes to, since there is room.
-use Rattle.std.proofs.Common.{◌≡◌, ℕ, ◌+◌, ◌≤◌, true, List, [], length, take, Result, sym, refl, ap, ◌∙◌, subst, arith}
+use Rattle.std.proofs.Common.{◌≡◌, ℕ, ◌+◌, ◌≤◌, true, List, [], length, take, Result, sym, ap, ◌∙◌, subst, arith}
 use Rattle.std.proofs.lemmas.List.{length-take-le}
 use Rattle.board.specs.declared.Right.{Right}
 use Rattle.board.specs.Meaning.{writable}
@@ -8,7 +8,7 @@ use Rattle.bus.specs.declared.line.ReadLine.{ReadLine}
 use Rattle.bus.specs.declared.line.WriteLine.{WriteLine}
 use Rattle.bus.specs.Sheets.{All}
 use Rattle.bus.specs.Program.{Program, World, Trail, runs}
-use Rattle.bus.specs.Seen.{Seen, Runs, Later}
+use Rattle.bus.specs.Seen.{Seen, Runs}
 use Rattle.bus.specs.Bound.{Bounded}
 use Rattle.bus.proofs.Room.{room_for}
 

@@ -1,5 +1,5 @@
 -- Strings: characters of one or two bytes, from the lower end on.
-use Rattle.std.specs.Prelude.{ℕ, ◌+◌, ◌-◌, ◌*◌, ◌%◌, ◌^◌, min, Bool, true, false, cond, not, ◌==◌, nat_lt}
+use Rattle.std.specs.Prelude.{ℕ, ◌+◌, ◌-◌, ◌*◌, min, Bool, true, false, cond, not, ◌==◌, nat_lt}
 use Rattle.board.specs.Block.{above}
 use Rattle.number.specs.declared.flags.Flags.{Flags}
 use Rattle.number.specs.declared.width.Size.{Size}

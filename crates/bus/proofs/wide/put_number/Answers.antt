@@ -1,4 +1,4 @@
-use Rattle.std.proofs.Common.{◌≡◌, subst, arith}
+use Rattle.std.proofs.Common.{◌≡◌, arith}
 use Rattle.number.specs.Sizes.{byte_count}
 use Rattle.bus.specs.Wide.{put_number}
 use Rattle.bus.proofs.Laws.{times_none, times_more}

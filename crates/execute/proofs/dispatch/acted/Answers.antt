@@ -1,7 +1,7 @@
 use borrow.Author.Rules.{rules}
 use mir.Val.{to_z, of_z}
 use mir.Syntax.{w32}
-use mathlib.Core.Path.{◌≡◌, refl, ap, sym, ◌∙◌}
+use mathlib.Core.Path.{◌≡◌, ap, sym, ◌∙◌}
 use Rattle.bus.proofs.Laws.{by_case, gives}
 use Rattle.execute.specs.One.{branched, calling_relative}
 use Rattle.execute.specs.Execute.{acted}

@@ -1,4 +1,4 @@
-use mathlib.Core.Path.{◌≡◌, refl, ap, sym, ◌∙◌}
+use mathlib.Core.Path.{sym}
 use Rattle.board.specs.Block.{above}
 use Rattle.bus.proofs.Laws.{by_case}
 use Rattle.execute.specs.Execute.{acted}

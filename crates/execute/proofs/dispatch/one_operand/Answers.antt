@@ -1,4 +1,3 @@
-use mathlib.Core.Path.{◌≡◌, refl, ap, sym, ◌∙◌}
 use Rattle.bus.proofs.Laws.{by_case}
 use Rattle.execute.specs.Execute.{one_operand}
 use Rattle.execute.proofs.dispatch.one_operand.Goals as goal

@@ -1,13 +1,10 @@
-use borrow.Author.Rules.{rules}
-use mathlib.Core.Path.{◌≡◌, refl, ap, sym, ◌∙◌}
-use Rattle.bus.proofs.Laws.{goes_on, ends_at, gives, refuses, hands_on, answers, by_case, if_so, if_not}
-use Rattle.board.specs.Block.{above}
+use mathlib.Core.Path.{ap, sym, ◌∙◌}
+use Rattle.bus.proofs.Laws.{goes_on, ends_at, gives, hands_on, by_case}
 use Rattle.instruction.specs.Operations.{one_access}
-use Rattle.processor.specs.Registers.{register, with_register, gone_on}
-use Rattle.processor.specs.Operands.{displaced, below, fetch_pointer, locate, write_at, location_address}
+use Rattle.processor.specs.Registers.{gone_on}
+use Rattle.processor.specs.Operands.{locate}
 use Rattle.execute.specs.Two.{taken, left}
 use Rattle.execute.specs.One.{altering}
-use Rattle.bus.specs.Wide.{ask_bytes, put_number}
 use Rattle.execute.proofs.one.altering.Goals as goal
 
 pub returns-in_err-p : goal.returns-in_err-p

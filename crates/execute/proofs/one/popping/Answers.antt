@@ -1,13 +1,9 @@
-use borrow.Author.Rules.{rules}
-use mathlib.Core.Path.{◌≡◌, refl, ap, sym, ◌∙◌}
-use Rattle.bus.proofs.Laws.{goes_on, ends_at, gives, refuses, hands_on, answers, by_case, if_so, if_not}
+use mathlib.Core.Path.{ap, sym, ◌∙◌}
+use Rattle.bus.proofs.Laws.{goes_on, ends_at, gives, hands_on, by_case}
 use Rattle.board.specs.Block.{above}
-use Rattle.instruction.specs.Operations.{one_access}
-use Rattle.processor.specs.Registers.{register, with_register, gone_on}
-use Rattle.processor.specs.Operands.{displaced, below, fetch_pointer, locate, write_at, location_address}
-use Rattle.execute.specs.Two.{taken, left}
+use Rattle.processor.specs.Registers.{with_register}
+use Rattle.processor.specs.Operands.{fetch_pointer, locate}
 use Rattle.execute.specs.One.{popping}
-use Rattle.bus.specs.Wide.{ask_bytes, put_number}
 use Rattle.execute.proofs.one.popping.Goals as goal
 
 pub returns-in_err-v : goal.returns-in_err-v

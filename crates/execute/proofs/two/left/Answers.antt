@@ -1,4 +1,4 @@
-use mathlib.Core.Path.{◌≡◌, refl, ap, sym, ◌∙◌}
+use mathlib.Core.Path.{refl}
 use Rattle.bus.proofs.Laws.{gives, by_case}
 use Rattle.execute.specs.Two.{left}
 use Rattle.execute.proofs.two.left.Goals as goal

@@ -1,4 +1,4 @@
-use mathlib.Core.Path.{◌≡◌, refl, ap, sym, ◌∙◌}
+use mathlib.Core.Path.{refl, sym}
 use Rattle.bus.proofs.Laws.{gives, by_case}
 use Rattle.execute.specs.Two.{taken}
 use Rattle.execute.proofs.two.taken.Goals as goal

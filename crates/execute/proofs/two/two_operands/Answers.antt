@@ -1,6 +1,5 @@
-use borrow.Author.Rules.{rules}
-use mathlib.Core.Path.{◌≡◌, refl, ap, sym, ◌∙◌}
-use Rattle.bus.proofs.Laws.{goes_on, ends_at, gives, refuses, hands_on, answers, by_case, if_so, if_not}
+use mathlib.Core.Path.{ap, sym, ◌∙◌}
+use Rattle.bus.proofs.Laws.{goes_on, ends_at, gives, hands_on, by_case}
 use Rattle.instruction.specs.Operations.{second_access}
 use Rattle.processor.specs.Registers.{gone_on}
 use Rattle.processor.specs.Operands.{locate}

@@ -1,4 +1,4 @@
-use Rattle.std.proofs.Common.{arith, rules}
+use Rattle.std.proofs.Common.{arith}
 use Rattle.history.proofs.Parts.{on_whole}
 use Rattle.history.proofs.list.run_part.Goals as goal
 

@@ -1,6 +1,5 @@
-use Rattle.std.proofs.Common.{◌≡◌, sym, refl, ap, ◌∙◌}
-use Rattle.std.proofs.lemmas.Bool.{lt-ltb, le-ltb, eq-eqb, ne_eqb}
-use Rattle.bus.proofs.Laws.{goes_on, ends_at, gives, refuses, hands_on, answers, by_case, if_so, if_not}
+use Rattle.std.proofs.Common.{refl}
+use Rattle.bus.proofs.Laws.{gives, refuses, by_case}
 use Rattle.instruction.specs.Formats.{by_entry}
 use Rattle.instruction.proofs.format.by_entry.Goals as goal
 

@@ -1,9 +1,6 @@
-use Rattle.std.proofs.Common.{◌≡◌, sym, refl, ap, ◌∙◌, w32, to_z, of_z, rules}
-use Rattle.bus.proofs.Laws.{goes_on, ends_at, gives, refuses, hands_on, answers, by_case, if_so, if_not}
+use Rattle.std.proofs.Common.{◌≡◌, w32, to_z, of_z, rules}
+use Rattle.bus.proofs.Laws.{goes_on, ends_at, gives, hands_on}
 use Rattle.instruction.specs.Formats.{calling}
-use Rattle.instruction.specs.Modes.{register_verdict}
-use Rattle.instruction.specs.Decode.{operand_at}
-use Rattle.instruction.proofs.Permits.{permits}
 use Rattle.instruction.proofs.format.calling.Goals as goal
 
 pub returns-in_err-d : goal.returns-in_err-d

@@ -1,5 +1,5 @@
-use Rattle.std.proofs.Common.{◌≡◌, sym, refl, ap, ◌∙◌, rules}
-use Rattle.bus.proofs.Laws.{goes_on, ends_at, gives, refuses, hands_on, answers, by_case, if_so, if_not}
+use Rattle.std.proofs.Common.{sym}
+use Rattle.bus.proofs.Laws.{goes_on, ends_at, hands_on, by_case}
 use Rattle.instruction.specs.Formats.{decode, by_entry}
 use Rattle.instruction.proofs.format.decode_at.Goals as goal
 

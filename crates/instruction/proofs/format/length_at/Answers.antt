@@ -1,9 +1,5 @@
-use Rattle.std.proofs.Common.{◌≡◌, sym, refl, ap, ◌∙◌, rules}
-use Rattle.bus.proofs.Laws.{goes_on, ends_at, gives, refuses, hands_on, answers, by_case, if_so, if_not}
-use Rattle.instruction.specs.Formats.{length_at, length_of}
-use Rattle.instruction.specs.Modes.{register_verdict}
-use Rattle.instruction.specs.Decode.{operand_at}
-use Rattle.instruction.proofs.Permits.{permits}
+use Rattle.bus.proofs.Laws.{goes_on, ends_at, hands_on, answers}
+use Rattle.instruction.specs.Formats.{length_at}
 use Rattle.instruction.proofs.format.length_at.Goals as goal
 
 pub returns-in_err-byte : goal.returns-in_err-byte

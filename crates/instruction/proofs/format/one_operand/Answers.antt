@@ -1,9 +1,7 @@
-use Rattle.std.proofs.Common.{◌≡◌, sym, refl, ap, ◌∙◌, rules}
-use Rattle.bus.proofs.Laws.{goes_on, ends_at, gives, refuses, hands_on, answers, by_case, if_so, if_not}
+use Rattle.std.proofs.Common.{sym, refl}
+use Rattle.bus.proofs.Laws.{goes_on, ends_at, gives, hands_on, by_case}
 use Rattle.instruction.specs.Formats.{one_operand}
-use Rattle.instruction.specs.Modes.{register_verdict}
 use Rattle.instruction.specs.Decode.{operand_at}
-use Rattle.instruction.proofs.Permits.{permits}
 use Rattle.instruction.proofs.format.one_operand.Goals as goal
 
 pub returns-in_err-x : goal.returns-in_err-x

@@ -1,5 +1,5 @@
-use Rattle.std.proofs.Common.{◌≡◌, sym, refl, ap, ◌∙◌, rules}
-use Rattle.bus.proofs.Laws.{goes_on, ends_at, gives, refuses, hands_on, answers, by_case, if_so, if_not}
+use Rattle.std.proofs.Common.{sym, refl, ap, ◌∙◌}
+use Rattle.bus.proofs.Laws.{goes_on, ends_at, gives, hands_on, by_case}
 use Rattle.instruction.specs.Formats.{register_first}
 use Rattle.instruction.specs.Modes.{register_verdict}
 use Rattle.instruction.specs.Decode.{operand_at}

@@ -1,6 +1,5 @@
-use Rattle.std.proofs.Common.{◌≡◌, sym, refl, ap, ◌∙◌}
-use Rattle.std.proofs.lemmas.Bool.{lt-ltb, le-ltb, eq-eqb, ne_eqb}
-use Rattle.bus.proofs.Laws.{goes_on, ends_at, gives, refuses, hands_on, answers, by_case, if_so, if_not}
+use Rattle.std.proofs.Common.{sym, refl}
+use Rattle.bus.proofs.Laws.{goes_on, ends_at, gives, refuses, hands_on, by_case}
 use Rattle.instruction.specs.Formats.{string_instruction, strings_by}
 use Rattle.instruction.proofs.format.string_instruction.Goals as goal
 

@@ -1,4 +1,4 @@
-use Rattle.std.proofs.Common.{◌<◌, refl, rules}
+use Rattle.std.proofs.Common.{◌<◌, rules}
 use Rattle.instruction.specs.Opcodes.{entry}
 use Rattle.instruction.proofs.Table.{rule}
 use Rattle.instruction.proofs.opcode.row.Goals as goal

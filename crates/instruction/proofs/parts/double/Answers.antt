@@ -1,5 +1,5 @@
-use Rattle.std.proofs.Common.{◌≡◌, sym, refl, ap, ◌∙◌, w32, to_z, of_z, rules}
-use Rattle.bus.proofs.Laws.{goes_on, ends_at, gives, refuses, hands_on, by_case}
+use Rattle.std.proofs.Common.{◌≡◌, w32, to_z, of_z, rules}
+use Rattle.bus.proofs.Laws.{goes_on, ends_at, gives, hands_on}
 use Rattle.instruction.specs.Decode.{double_at}
 use Rattle.instruction.proofs.parts.double.Goals as goal
 

@@ -1,4 +1,4 @@
-use Rattle.std.proofs.Common.{◌≡◌, sym, refl, ap, ◌∙◌, w32, to_z, of_z, rules}
+use Rattle.std.proofs.Common.{sym, refl, ap, ◌∙◌}
 use Rattle.bus.proofs.Laws.{goes_on, ends_at, gives, refuses, hands_on, by_case}
 use Rattle.instruction.proofs.Shapes.{no_shape}
 use Rattle.instruction.specs.Decode.{indexed_at, indexed_by, shape_of}

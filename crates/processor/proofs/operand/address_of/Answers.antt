@@ -1,6 +1,5 @@
-use Rattle.std.proofs.Common.{◌≡◌, sym, refl, ap, ◌∙◌, w32, to_z, of_z, rules}
-use Rattle.bus.proofs.Laws.{goes_on, ends_at, gives, refuses, hands_on, by_case}
-use Rattle.processor.specs.declared.operand.Location.TheVariants.{InRegister, Constant, InMemory}
+use Rattle.std.proofs.Common.{◌≡◌, sym, ◌∙◌, w32, to_z, of_z, rules}
+use Rattle.bus.proofs.Laws.{gives, by_case}
 use Rattle.processor.specs.Operands.{address_of, displaced, fetch_pointer}
 use Rattle.processor.proofs.operand.address_of.Goals as goal
 

@@ -1,6 +1,6 @@
 use Rattle.std.proofs.Common.{◌≡◌, sym, refl, ap, ◌∙◌, w32, to_z, of_z, rules}
-use Rattle.bus.proofs.Laws.{goes_on, ends_at, gives, refuses, hands_on, by_case}
-use Rattle.processor.specs.declared.operand.Location.TheVariants.{InRegister, Constant, InMemory}
+use Rattle.bus.proofs.Laws.{goes_on, ends_at, gives, hands_on, by_case}
+use Rattle.processor.specs.declared.operand.Location.TheVariants.{InMemory}
 use Rattle.processor.specs.Operands.{locate, found, displaced, fetch_pointer}
 use Rattle.processor.proofs.operand.locate.Goals as goal
 

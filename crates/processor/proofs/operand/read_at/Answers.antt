@@ -1,6 +1,5 @@
-use Rattle.std.proofs.Common.{◌≡◌, sym, refl, ap, ◌∙◌, rules}
-use Rattle.bus.proofs.Laws.{goes_on, ends_at, gives, refuses, hands_on, by_case}
-use Rattle.processor.specs.declared.operand.Location.TheVariants.{InRegister, Constant, InMemory}
+use Rattle.std.proofs.Common.{sym, refl}
+use Rattle.bus.proofs.Laws.{gives, by_case}
 use Rattle.processor.specs.Operands.{read_at}
 use Rattle.processor.proofs.operand.read_at.Goals as goal
 

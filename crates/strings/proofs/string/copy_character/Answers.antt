@@ -1,5 +1,5 @@
-use Rattle.std.proofs.Common.{◌≡◌, sym, refl, ap, ◌∙◌, rules}
-use Rattle.bus.proofs.Laws.{goes_on, ends_at, gives, refuses, hands_on, answers, by_case, if_so, if_not}
+use Rattle.std.proofs.Common.{sym}
+use Rattle.bus.proofs.Laws.{goes_on, ends_at, hands_on, by_case}
 use Rattle.number.specs.Sizes.{byte_count}
 use Rattle.bus.specs.Wide.{fetch_number}
 use Rattle.strings.specs.Strings.{copy_character}

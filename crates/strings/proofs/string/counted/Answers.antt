@@ -1,7 +1,7 @@
-use Rattle.std.proofs.Common.{◌≡◌, ◌<◌, true, false, ltb, sym, refl, ap, ◌∙◌, arith}
+use Rattle.std.proofs.Common.{ltb, sym, refl, ap, ◌∙◌}
 use Rattle.std.proofs.lemmas.Bool.{lt-ltb, le-ltb}
 use Rattle.bus.proofs.Laws.{gives, refuses, if_so, if_not}
-use Rattle.strings.specs.Strings.{counted, length_value}
+use Rattle.strings.specs.Strings.{counted}
 use Rattle.strings.proofs.string.counted.Goals as goal
 
 pub returns-then-n-gt128 : goal.returns-then-n-gt128

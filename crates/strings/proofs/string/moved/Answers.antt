@@ -1,4 +1,4 @@
-use Rattle.std.proofs.Common.{◌≡◌, sym, refl, ap, ◌∙◌}
+use Rattle.std.proofs.Common.{sym}
 use Rattle.bus.proofs.Laws.{goes_on, ends_at, gives, hands_on}
 use Rattle.strings.specs.Strings.{moved}
 use Rattle.strings.proofs.string.moved.Goals as goal

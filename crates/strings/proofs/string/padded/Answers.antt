@@ -1,8 +1,8 @@
-use Rattle.std.proofs.Common.{◌≡◌, ◌-◌, sym, refl, ap, ◌∙◌}
+use Rattle.std.proofs.Common.{◌-◌, sym}
 use Rattle.bus.proofs.Laws.{goes_on, ends_at, gives, hands_on, by_case}
 use Rattle.number.specs.Sizes.{byte_count}
 use Rattle.processor.specs.Registers.{read_register}
-use Rattle.strings.specs.Strings.{character, filled, padded}
+use Rattle.strings.specs.Strings.{filled, padded}
 use Rattle.strings.proofs.string.padded.Goals as goal
 
 pub returns-in_err-copied : goal.returns-in_err-copied

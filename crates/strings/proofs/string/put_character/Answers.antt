@@ -1,7 +1,7 @@
-use Rattle.std.proofs.Common.{◌≡◌, sym, refl, ap, ◌∙◌}
-use Rattle.bus.proofs.Laws.{goes_on, ends_at, gives, hands_on, by_case}
+use Rattle.std.proofs.Common.{sym}
+use Rattle.bus.proofs.Laws.{goes_on, ends_at, hands_on, by_case}
 use Rattle.number.specs.Sizes.{byte_count}
-use Rattle.bus.specs.Wide.{fetch_number, ask_bytes, put_number}
+use Rattle.bus.specs.Wide.{ask_bytes, put_number}
 use Rattle.strings.specs.Strings.{put_character}
 use Rattle.strings.proofs.string.put_character.Goals as goal
 

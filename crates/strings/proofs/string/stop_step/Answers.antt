@@ -1,4 +1,4 @@
-use Rattle.std.proofs.Common.{◌≡◌, true, false, eqb, sym, refl, ap, ◌∙◌}
+use Rattle.std.proofs.Common.{sym, refl}
 use Rattle.std.proofs.lemmas.Bool.{eq-eqb, ne_eqb}
 use Rattle.bus.proofs.Laws.{goes_on, ends_at, gives, hands_on, by_case, if_so, if_not}
 use Rattle.number.specs.Sizes.{byte_count}

@@ -1,5 +1,5 @@
-use Rattle.std.proofs.Common.{◌≡◌, sym, refl, ap, ◌∙◌, rules}
-use Rattle.bus.proofs.Laws.{goes_on, ends_at, gives, refuses, hands_on, answers, by_case, if_so, if_not}
+use Rattle.std.proofs.Common.{sym}
+use Rattle.bus.proofs.Laws.{goes_on, ends_at, hands_on, by_case}
 use Rattle.processor.specs.Operands.{locate, location_address}
 use Rattle.strings.specs.Strings.{worked, string_instruction}
 use Rattle.strings.proofs.string.string_instruction.Goals as goal

@@ -1,4 +1,4 @@
-use Rattle.std.proofs.Common.{◌≡◌, ◌≤◌, min, sym, refl, ap, ◌∙◌, arith}
+use Rattle.std.proofs.Common.{sym, arith}
 use Rattle.bus.proofs.Laws.{by_case}
 use Rattle.strings.specs.Strings.{moved, padded, halted, worked}
 use Rattle.strings.proofs.string.worked.Goals as goal

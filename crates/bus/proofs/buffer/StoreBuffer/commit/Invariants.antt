@@ -1,4 +1,4 @@
-use Rattle.std.proofs.Common.{◌≡◌, ◌+◌, ◌≤◌, ◌++◌, length, take, drop}
+use Rattle.std.proofs.Common.{◌≡◌, ◌+◌, ◌++◌, take, drop}
 use Rattle.bus.specs.Buffer.{buffered}
 use Rattle.bus.specs.Commit.{stores, write_lines}
 use Rattle.bus.proofs.buffer.StoreBuffer.commit.Given as goal

@@ -1,4 +1,4 @@
-use Rattle.std.proofs.Common.{◌≡◌, ◌<◌, min, map, length, take, drop, sym, refl, ap, ◌∙◌, subst, arith}
+use Rattle.std.proofs.Common.{◌≡◌, ◌<◌, min, map, length, take, drop, refl, subst, arith}
 use Rattle.history.specs.History.{after, point, lent, Follows}
 use Rattle.history.proofs.Lists.{list_none, list_turn, rest_turn, recounted}
 use Rattle.history.proofs.list.Session.carry_out.Goals as goal

@@ -1,4 +1,4 @@
-use Rattle.std.proofs.Common.{◌≡◌, ◌≤◌, map, length, take, drop}
+use Rattle.std.proofs.Common.{◌≡◌, map, length, take, drop}
 use Rattle.history.specs.History.{after, point, lent, Follows}
 use Rattle.history.proofs.list.Session.carry_out.Given as goal
 

@@ -1,4 +1,4 @@
-use Rattle.std.proofs.Common.{sym, ◌∙◌, arith}
+use Rattle.std.proofs.Common.{sym, arith}
 use Rattle.session.proofs.Loops.{turns_none, turn, turn_out, turned_all, too_short}
 use Rattle.session.proofs.running.Running.run.Goals as goal
 
