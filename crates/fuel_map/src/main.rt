@@ -1,4 +1,4 @@
-// The bench program: puts a control unit's board together, runs its firmware and prints what came of it.
+// The demonstration job: puts a control unit's board together, runs its firmware and prints what came of it.
 #![tactic(auto)]
 
 use board::{Cut, Ram, Rom, SensorPage};
