@@ -1,3 +1,4 @@
+pub mod Bytes
 pub mod Powers
 pub mod Residues
 pub mod Spans

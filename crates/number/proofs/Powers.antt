@@ -1,17 +1,30 @@
 -- Numbers divided and multiplied by powers of two.
-use Rattle.std.proofs.Common.{◌≡◌, ℕ, zero, suc, ◌+◌, ◌-◌, ◌*◌, ◌/◌, ◌%◌, ◌^◌, ◌<◌, ◌≤◌, true, false, eqb, ℤ, pos, negsuc, sym, ap, ◌∙◌, subst, lt_of_lt_of_le, add-zero, mod-eq_of_lt, mul_assoc, add_comm, mul-one, div-one, arith, pow_mono, pow-add, shr-shr, w32, SFits}
-use native.Mathlib.Nat.{div-eq_of_lt, mul-mod_left, mod_self, pow-le-pow_right, sub-zero, zero-div}
+use Rattle.std.proofs.Common.{le_of_suc-le-suc, inl, inr, Option, Some, None, SomeIff, unwrap_or, min, ◌≡◌, ℕ, zero, suc, ◌+◌, ◌-◌, ◌*◌, ◌/◌, ◌%◌, ◌^◌, ◌<◌, ◌≤◌, false, eqb, ℤ, pos, negsuc, sym, ap, ◌∙◌, subst, lt_of_lt_of_le, add-zero, mod-eq_of_lt, mul_assoc, add_comm, mul-one, div-one, arith, pow_mono, pow-add, shr-shr, w32, SFits}
+use native.Mathlib.Nat.{div-eq_of_lt, mul-mod_left, mod_self, pow-le-pow_right, sub-zero, zero-div, zero-mod}
 use lib.Pow.{mod-mod-pow, mod-pow-add, field, shl-shr}
-use lib.Signed.{lt_z, shr_z}
+use lib.Signed.{shr_z}
 use lib.Bits.{bit_or, or_shifted, or_self}
 use Rattle.std.proofs.lemmas.Nat.{shr_below}
-use Rattle.std.proofs.lemmas.Bool.{ltb-true, true≢false}
+use Rattle.std.proofs.lemmas.Bool.{cases_lt}
+use Rattle.std.proofs.Math.Nat.{lt_of_not-le}
 use Rattle.number.specs.Words.{bit}
 use Rattle.number.specs.Outcomes.{turned}
 
 -- nothing of w bits is left past their end
 pub far : (n w k : ℕ) → n < 2 ^ w → w ≤ k → n / 2 ^ k ≡ 0
 far n w k h p = div-eq_of_lt (lt_of_lt_of_le h (pow_mono p))
+
+-- what a shift gives that is asked whether it knows the distance
+pub down : (o : Option ℕ) (n k : ℕ) → n < 2 ^ 64 → SomeIff o (k < 64) (n / 2 ^ k) → unwrap_or o 0 ≡ n / 2 ^ k
+down None n k h p = sym (far n 64 k h (le_of_suc-le-suc (lt_of_not-le p)))
+down (Some x) n k h p = p.1
+
+far_min : (n k : ℕ) → n < 2 ^ 31 → n / 2 ^ min k 31 ≡ n / 2 ^ k
+far_min n k h =
+    elim (cases_lt k 31) [
+      | inr p ↦ let e : min k 31 ≡ 31 = omega arith in ap (λ j. n / 2 ^ j) e ∙ far n 31 31 h (omega arith) ∙ sym (far n 31 k h p)
+      | inl p ↦ let e : min k 31 ≡ k = omega arith in ap (λ j. n / 2 ^ j) e
+    ]
 
 -- the low bits of a number of v bits are those of the whole
 pub low_of : (x v w : ℕ) → w ≤ v → x % 2 ^ v % 2 ^ w ≡ x % 2 ^ w
@@ -49,6 +62,15 @@ far_byte n size i h p =
     let some : 0 < 256 = omega arith in
     sym (ap (λ q. q % 256) (div-eq_of_lt (lt_of_lt_of_le h (pow-le-pow_right some p))))
 
+-- and to the left, of which 64 bits are kept
+pub up_low : (o : Option ℕ) (n k w : ℕ) → w ≤ 64 → SomeIff o (k < 64) (n * 2 ^ k % 2 ^ 64) → unwrap_or o 0 % 2 ^ w ≡ n * 2 ^ k % 2 ^ w
+up_low None n k w p e = let q : 64 ≤ k = le_of_suc-le-suc (lt_of_not-le e) in zero-mod (2 ^ w) ∙ sym (gone n w k (omega arith))
+up_low (Some x) n k w p e = ap (λ m. m % 2 ^ w) e.1 ∙ low_of (n * 2 ^ k) 64 w p
+
+pub up_next : (o : Option ℕ) (n k w : ℕ) → w < 64 → SomeIff o (k < 64) (n * 2 ^ k % 2 ^ 64) → bit w (unwrap_or o 0) ≡ bit w (n * 2 ^ k)
+up_next None n k w p e = let q : 64 ≤ k = le_of_suc-le-suc (lt_of_not-le e) in bit_none w ∙ sym (bit_gone n w k (omega arith))
+up_next (Some x) n k w p e = ap (bit w) e.1 ∙ bit_low (n * 2 ^ k) 64 w p
+
 module _ (n j k : ℕ) where
   -- n moved up by k, of which j + k bits are kept: the low j bits of n
   kept : n * 2 ^ k % 2 ^ (j + k) ≡ n % 2 ^ j * 2 ^ k
@@ -84,11 +106,7 @@ turns w n (suc k) h p =
     rw (mod-eq_of_lt less)
     (subst (λ (v : ℕ). n < 2 ^ v → bit_or (n * 2 ^ suc k % 2 ^ v) (n / 2 ^ (w - suc k)) ≡ turned v n (suc k)) e (joined n (w - suc k) (suc k)) h)
 
--- an integer that 32 bits hold, rounded down past their end
-pub far_below : (z : ℤ) (k : ℕ) → SFits w32 z → 32 ≤ k → lt_z z (pos 0) ≡ true → negsuc 0 ≡ shr_z z (2 ^ k)
-far_below (pos n) k f p h = absurd (omega (arith, ltb-true n 0 h))
-far_below (negsuc n) k f p h = ap negsuc (sym (far n 31 k f.sfits (omega arith)))
-
-pub far_above : (z : ℤ) (k : ℕ) → SFits w32 z → 32 ≤ k → lt_z z (pos 0) ≡ false → pos 0 ≡ shr_z z (2 ^ k)
-far_above (pos n) k f p h = ap pos (sym (far n 31 k f.sfits (omega arith)))
-far_above (negsuc n) k f p h = absurd (true≢false h)
+-- an integer that 32 bits hold has only its sign past bit 31
+pub far_signed : (z : ℤ) (k : ℕ) → SFits w32 z → shr_z z (2 ^ min k 31) ≡ shr_z z (2 ^ k)
+far_signed (pos n) k f = ap pos (far_min n k f.sfits)
+far_signed (negsuc n) k f = ap negsuc (far_min n k f.sfits)

@@ -1,11 +1,11 @@
 -- The sixteen conditions over the flags.
 use Rattle.std.specs.Prelude.{ℕ, ◌+◌, ◌*◌, ◌%◌, Bool, true, false, not, ◌||◌, List, [], ◌∷◌, slice_index_or}
-use Rattle.number.specs.Words.{one_if}
+use Rattle.std.specs.Int.{from_bool}
 use Rattle.number.specs.declared.flags.Flags.{Flags}
 
 -- the flags as a number of four bits: CY, OV, S, Z from the top
 abbrev pub number_of : Flags → ℕ
-number_of f = 8 * one_if f.cy + 4 * one_if f.ov + 2 * one_if f.s + one_if f.z
+number_of f = 8 * from_bool f.cy + 4 * from_bool f.ov + 2 * from_bool f.s + from_bool f.z
 
 -- whether the two differ
 abbrev pub differ : Bool → Bool → Bool

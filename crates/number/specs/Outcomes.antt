@@ -1,12 +1,18 @@
 -- What each operation on numbers of w bits comes to: a number and four flags.
 use Rattle.std.specs.Prelude.{ℕ, ◌+◌, ◌-◌, ◌*◌, ◌/◌, ◌%◌, ◌^◌, Bool, false, cond, not, ◌&&◌, ℤ, pos, ◌+ℤ◌, ◌-ℤ◌, ◌*ℤ◌, ◌==◌, bit_and, bit_or, bit_xor, int_lt, nat_le, unsigned_abs}
+use Rattle.std.specs.Int.{from_bool}
 use Rattle.std.specs.Int.Signed.{shr_z}
-use Rattle.number.specs.Words.{modulo, residue, signed, fits, bit, signed_bit, one_if}
+use Rattle.number.specs.Words.{modulo, residue, signed, fits, bit, signed_bit}
 use Rattle.number.specs.declared.flags.Flags.{Flags}
+use Rattle.number.specs.declared.arithmetic.Computed.{Computed}
 
 pub record Outcome : Type 0 where
   pub number : ℕ
   pub flags : Flags
+
+-- what code computed: the number that value makes of its value, and its flags
+abbrev pub shown : {W : Type 0} → (W → ℕ) → Computed W → Outcome
+shown value c = record { number = value c.value; flags = c.flags }
 
 -- the number n with CY and OV as given; S is its top bit, and Z says that it is 0
 abbrev pub outcome : ℕ → ℕ → Bool → Bool → Outcome
@@ -15,15 +21,15 @@ outcome w n cy ov = record { number = n; flags = record { cy = cy; ov = ov; s = 
 -- dst + src, and 1 more with a carry. CY: the sum reached 2^w. OV: the signed sum does not fit
 abbrev pub added : ℕ → ℕ → ℕ → Bool → Outcome
 added w dst src carry =
-    let sum : ℕ = dst + src + one_if carry in
-    let exact : ℤ = signed w dst +ℤ signed w src +ℤ pos (one_if carry) in
+    let sum : ℕ = dst + src + from_bool carry in
+    let exact : ℤ = signed w dst +ℤ signed w src +ℤ pos (from_bool carry) in
     outcome w (sum % 2 ^ w) (nat_le (2 ^ w) sum) (not (fits w exact))
 
 -- dst - src, and 1 less with a borrow. CY: the difference fell below 0. OV: the signed difference does not fit
 abbrev pub subtracted : ℕ → ℕ → ℕ → Bool → Outcome
 subtracted w dst src borrow =
-    let difference : ℤ = pos dst -ℤ pos src -ℤ pos (one_if borrow) in
-    let exact : ℤ = signed w dst -ℤ signed w src -ℤ pos (one_if borrow) in
+    let difference : ℤ = pos dst -ℤ pos src -ℤ pos (from_bool borrow) in
+    let exact : ℤ = signed w dst -ℤ signed w src -ℤ pos (from_bool borrow) in
     outcome w (residue w difference) (int_lt difference (pos 0)) (not (fits w exact))
 
 -- the logical operations clear OV and leave CY as it was before

@@ -1,5 +1,5 @@
 -- Numbers of w bits, with and without a sign, and their bits and bytes.
-use Rattle.std.specs.Prelude.{ℕ, zero, suc, ◌+◌, ◌-◌, ◌*◌, ◌/◌, ◌%◌, ◌^◌, Bool, true, false, cond, List, ℤ, pos, negsuc, ◌-ℤ◌, ◌==◌, nat_lt, slice_index}
+use Rattle.std.specs.Prelude.{ℕ, zero, suc, ◌+◌, ◌-◌, ◌*◌, ◌/◌, ◌%◌, ◌^◌, Bool, cond, List, ℤ, pos, negsuc, ◌-ℤ◌, ◌==◌, nat_lt, slice_index}
 use Rattle.std.specs.Int.Signed.{shr_z}
 
 -- z modulo m, from 0 up to m - 1; negsuc n is -(n + 1)
@@ -27,11 +27,6 @@ bit i n = n / 2 ^ i % 2 == 1
 -- bit i of z: whether z / 2^i, rounded down, is odd
 abbrev pub signed_bit : ℕ → ℤ → Bool
 signed_bit i z = modulo (shr_z z (2 ^ i)) 2 == 1
-
--- 1 for a set flag, 0 for a clear one
-abbrev pub one_if : Bool → ℕ
-one_if true = 1
-one_if false = 0
 
 -- byte i of n, the lowest first
 abbrev pub byte_of : ℕ → ℕ → ℕ

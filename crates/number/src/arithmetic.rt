@@ -1,14 +1,15 @@
 // Sums, differences and logic, with their flags.
-ghost use Rattle.std.specs.Prelude.{◌≡◌, ◌*◌, ◌≤◌, pos, ◌+ℤ◌, ◌-ℤ◌};
-ghost use Rattle.number.specs.Words.{signed, one_if, fits as fits_in};
-ghost use Rattle.number.specs.Outcomes.{outcome, added, subtracted, anded, ored, xored, inverted, tested};
+ghost use Rattle.std.specs.Prelude.{◌≡◌, ℕ, false, ◌*◌, ◌^◌, ◌<◌, pos, ◌+ℤ◌, ◌-ℤ◌};
+ghost use Rattle.std.specs.Int.{from_bool};
+ghost use Rattle.number.specs.Words.{signed, fits as fits_in};
+ghost use Rattle.number.specs.Outcomes.{shown, outcome, added, subtracted, anded, ored, xored, inverted, tested};
 
 use crate::bits::{bit, in_both, in_either, in_one};
 use crate::flags::Flags;
 use crate::width::{Arithmetic, low_signed};
 
 // A number, and the flags that come with it.
-#[derive(Clone, Copy)]
+#[derive(Clone, Copy, PartialEq, Eq, Debug)]
 pub struct Computed<W> {
     pub value: W,
     pub flags: Flags,
@@ -16,8 +17,7 @@ pub struct Computed<W> {
 
 // The number with its flags: S and Z from the number.
 pub(crate) fn with_flags<W: Arithmetic>(value: W, cy: bool, ov: bool) -> Computed<W>
-    ensures same { result.value ≡ value }
-    ensures flags { result.flags ≡ (outcome (8 * W.Width.size) (W.Width.value value) cy ov).flags }
+    ensures { shown W.Width.value result ≡ outcome (8 * W.Width.size) (W.Width.value value) cy ov }
 {
     let n = value.to_u64();
     let s = bit(n, W::bits() - 1);
@@ -36,27 +36,18 @@ fn fits<W: Arithmetic>(z: i64) -> bool
     -half <= z && z < half
 }
 
-// 1 for a set flag.
-fn one_if(flag: bool) -> u8
-    ensures number { result ≡ one_if flag }
-    ensures bound { result ≤ 1 }
-{
-    if flag { 1 } else { 0 }
-}
-
 // The sum of the numbers with their signs.
 fn signed_sum<W: Arithmetic>(dst: W, src: W, carry: bool) -> i64
-    ensures { result ≡ signed (8 * W.Width.size) (W.Width.value dst) +ℤ signed (8 * W.Width.size) (W.Width.value src) +ℤ pos (one_if carry) }
+    ensures { result ≡ signed (8 * W.Width.size) (W.Width.value dst) +ℤ signed (8 * W.Width.size) (W.Width.value src) +ℤ pos (from_bool carry) }
 {
-    dst.to_i32() as i64 + src.to_i32() as i64 + one_if(carry) as i64
+    i64::from(dst.to_i32()) + i64::from(src.to_i32()) + i64::from(carry)
 }
 
 // dst + src, and 1 more with a carry.
 pub fn add<W: Arithmetic>(dst: W, src: W, carry: bool) -> Computed<W>
-    ensures number { W.Width.value result.value ≡ (added (8 * W.Width.size) (W.Width.value dst) (W.Width.value src) carry).number }
-    ensures flags { result.flags ≡ (added (8 * W.Width.size) (W.Width.value dst) (W.Width.value src) carry).flags }
+    ensures { shown W.Width.value result ≡ added (8 * W.Width.size) (W.Width.value dst) (W.Width.value src) carry }
 {
-    let sum = dst.to_u32() as u64 + src.to_u32() as u64 + one_if(carry) as u64;
+    let sum = u64::from(dst.to_u32()) + u64::from(src.to_u32()) + u64::from(carry);
     with_flags(
         W::low(sum),
         sum >= W::modulus(),
@@ -66,72 +57,73 @@ pub fn add<W: Arithmetic>(dst: W, src: W, carry: bool) -> Computed<W>
 
 // The difference of the numbers without their signs.
 fn difference<W: Arithmetic>(dst: W, src: W, borrow: bool) -> i64
-    ensures { result ≡ pos (W.Width.value dst) -ℤ pos (W.Width.value src) -ℤ pos (one_if borrow) }
+    ensures { result ≡ pos (W.Width.value dst) -ℤ pos (W.Width.value src) -ℤ pos (from_bool borrow) }
 {
-    dst.to_u32() as i64 - src.to_u32() as i64 - one_if(borrow) as i64
+    i64::from(dst.to_u32()) - i64::from(src.to_u32()) - i64::from(borrow)
 }
 
 // The difference of the numbers with their signs.
 fn signed_difference<W: Arithmetic>(dst: W, src: W, borrow: bool) -> i64
-    ensures { result ≡ signed (8 * W.Width.size) (W.Width.value dst) -ℤ signed (8 * W.Width.size) (W.Width.value src) -ℤ pos (one_if borrow) }
+    ensures { result ≡ signed (8 * W.Width.size) (W.Width.value dst) -ℤ signed (8 * W.Width.size) (W.Width.value src) -ℤ pos (from_bool borrow) }
 {
-    dst.to_i32() as i64 - src.to_i32() as i64 - one_if(borrow) as i64
+    i64::from(dst.to_i32()) - i64::from(src.to_i32()) - i64::from(borrow)
 }
 
 // dst - src, and 1 less with a borrow. From 0 it negates, and without its number it compares.
 pub fn subtract<W: Arithmetic>(dst: W, src: W, borrow: bool) -> Computed<W>
-    ensures number { W.Width.value result.value ≡ (subtracted (8 * W.Width.size) (W.Width.value dst) (W.Width.value src) borrow).number }
-    ensures flags { result.flags ≡ (subtracted (8 * W.Width.size) (W.Width.value dst) (W.Width.value src) borrow).flags }
+    ensures { shown W.Width.value result ≡ subtracted (8 * W.Width.size) (W.Width.value dst) (W.Width.value src) borrow }
 {
     let left = difference(dst, src, borrow);
     let overflow = !fits::<W>(signed_difference(dst, src, borrow));
     with_flags(low_signed(left), left < 0, overflow)
 }
 
+// The bits that an operation makes of those of both numbers, with CY as it was before.
+fn bitwise<W: Arithmetic, F: FnOnce(u64, u64) -> u64>(
+    operation: F,
+    dst: W,
+    src: W,
+    before: Flags,
+) -> Computed<W>
+    requires callable { F.IsAlwaysCallable operation }
+    requires within { (a b n w : ℕ) → a < 2 ^ w → b < 2 ^ w → F.post operation a b n → n < 2 ^ w }
+    ensures { (n : ℕ) × F.post operation (W.Width.value dst) (W.Width.value src) n × shown W.Width.value result ≡ outcome (8 * W.Width.size) n before.cy false }
+{
+    let bits = operation(dst.to_u64(), src.to_u64());
+    with_flags(W::low(bits), before.cy, false)
+}
+
 // The bits that both have.
 pub fn and<W: Arithmetic>(dst: W, src: W, before: Flags) -> Computed<W>
-    ensures number { W.Width.value result.value ≡ (anded (8 * W.Width.size) (W.Width.value dst) (W.Width.value src) before).number }
-    ensures flags { result.flags ≡ (anded (8 * W.Width.size) (W.Width.value dst) (W.Width.value src) before).flags }
+    ensures { shown W.Width.value result ≡ anded (8 * W.Width.size) (W.Width.value dst) (W.Width.value src) before }
 {
-    with_flags(
-        W::low(in_both(dst.to_u64(), src.to_u64())),
-        before.cy,
-        false,
-    )
+    bitwise(in_both, dst, src, before)
 }
 
 // The bits that at least one has.
 pub fn or<W: Arithmetic>(dst: W, src: W, before: Flags) -> Computed<W>
-    ensures number { W.Width.value result.value ≡ (ored (8 * W.Width.size) (W.Width.value dst) (W.Width.value src) before).number }
-    ensures flags { result.flags ≡ (ored (8 * W.Width.size) (W.Width.value dst) (W.Width.value src) before).flags }
+    ensures { shown W.Width.value result ≡ ored (8 * W.Width.size) (W.Width.value dst) (W.Width.value src) before }
 {
-    with_flags(
-        W::low(in_either(dst.to_u64(), src.to_u64())),
-        before.cy,
-        false,
-    )
+    bitwise(in_either, dst, src, before)
 }
 
 // The bits that just one has.
 pub fn xor<W: Arithmetic>(dst: W, src: W, before: Flags) -> Computed<W>
-    ensures number { W.Width.value result.value ≡ (xored (8 * W.Width.size) (W.Width.value dst) (W.Width.value src) before).number }
-    ensures flags { result.flags ≡ (xored (8 * W.Width.size) (W.Width.value dst) (W.Width.value src) before).flags }
+    ensures { shown W.Width.value result ≡ xored (8 * W.Width.size) (W.Width.value dst) (W.Width.value src) before }
 {
-    with_flags(W::low(in_one(dst.to_u64(), src.to_u64())), before.cy, false)
+    bitwise(in_one, dst, src, before)
 }
 
 // Each bit the other way.
 pub fn not<W: Arithmetic>(src: W, before: Flags) -> Computed<W>
-    ensures number { W.Width.value result.value ≡ (inverted (8 * W.Width.size) (W.Width.value src) before).number }
-    ensures flags { result.flags ≡ (inverted (8 * W.Width.size) (W.Width.value src) before).flags }
+    ensures { shown W.Width.value result ≡ inverted (8 * W.Width.size) (W.Width.value src) before }
 {
     with_flags(W::low(W::modulus() - 1 - src.to_u64()), before.cy, false)
 }
 
 // The number as it is, with its flags.
 pub fn test<W: Arithmetic>(src: W) -> Computed<W>
-    ensures number { W.Width.value result.value ≡ (tested (8 * W.Width.size) (W.Width.value src)).number }
-    ensures flags { result.flags ≡ (tested (8 * W.Width.size) (W.Width.value src)).flags }
+    ensures { shown W.Width.value result ≡ tested (8 * W.Width.size) (W.Width.value src) }
 {
     with_flags(src, false, false)
 }

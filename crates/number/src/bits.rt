@@ -1,13 +1,13 @@
 // Bits of a number, and numbers moved along their bits, at any distance.
-ghost use Rattle.std.specs.Prelude.{◌≡◌, ℕ, ◌/◌, ◌^◌, ◌<◌, bit_and, bit_or, bit_xor};
+ghost use Rattle.std.specs.Prelude.{◌≡◌, ℕ, ◌*◌, ◌/◌, ◌%◌, ◌^◌, ◌<◌, ◌≤◌, bit_and, bit_or, bit_xor};
 ghost use Rattle.std.specs.Int.Signed.{shr_z};
-ghost use Rattle.number.specs.Words.{bit as bit_of, signed_bit};
+ghost use Rattle.number.specs.Words.{bit as bit_of, signed_bit, from_bytes};
 
 // The number divided by 2^by, rounded down.
 pub fn lowered(n: u64, by: u32) -> u64
     ensures { result ≡ n / 2 ^ by }
 {
-    if by < 64 { n >> by } else { 0 }
+    n.checked_shr(by).unwrap_or(0)
 }
 
 // Bit i of a number.
@@ -21,13 +21,7 @@ pub fn bit(n: u64, i: u32) -> bool
 pub fn lowered_signed(z: i32, by: u32) -> i32
     ensures { result ≡ shr_z z (2 ^ by) }
 {
-    if by < 32 {
-        z >> by
-    } else if z < 0 {
-        -1
-    } else {
-        0
-    }
+    z >> by.min(31)
 }
 
 // Bit i of a number with a sign.
@@ -59,4 +53,11 @@ pub fn in_one(a: u64, b: u64) -> u64
     ensures bound { (w : ℕ) → a < 2 ^ w → b < 2 ^ w → result < 2 ^ w }
 {
     a ^ b
+}
+
+// The number whose bytes these are, the lowest first: its low bytes are the first ones.
+pub fn joined(bytes: &[u8; 8]) -> u64
+    ensures { (k : ℕ) → k ≤ 8 → result % 2 ^ (8 * k) ≡ from_bytes k bytes.now }
+{
+    u64::from_le_bytes(*bytes)
 }

@@ -7,7 +7,7 @@ ghost use Rattle.number.specs.Conditions.{number_of, condition as condition_of};
 use crate::bits::bit;
 
 // Carry, overflow, sign, zero.
-#[derive(Clone, Copy)]
+#[derive(Clone, Copy, PartialEq, Eq, Debug, Default)]
 pub struct Flags {
     pub cy: bool,
     pub ov: bool,
@@ -15,17 +15,12 @@ pub struct Flags {
     pub z: bool,
 }
 
-impl Flags {
-    // The flags as a number of four bits: CY, OV, S, Z from the top.
-    pub fn number(self) -> u8
-        ensures number { result ≡ number_of self }
-        ensures bound { result < 16 }
-    {
-        let cy = if self.cy { 8 } else { 0 };
-        let ov = if self.ov { 4 } else { 0 };
-        let s = if self.s { 2 } else { 0 };
-        let z = if self.z { 1 } else { 0 };
-        cy + ov + s + z
+// The flags as a number of four bits: CY, OV, S, Z from the top.
+impl From<Flags> for u8 {
+    ghost from_gives = { λ flags number. number ≡ number_of flags };
+
+    fn from(flags: Flags) -> u8 {
+        8 * u8::from(flags.cy) + 4 * u8::from(flags.ov) + 2 * u8::from(flags.s) + u8::from(flags.z)
     }
 }
 
@@ -53,12 +48,12 @@ const HOLDS: [u16; 16] = [
 fn entry(condition: u8) -> u16
     ensures { (f : FlagSet) → bit_of (number_of f) result ≡ condition_of condition f }
 {
-    HOLDS[condition as usize % 16]
+    HOLDS[usize::from(condition % 16)]
 }
 
 // Whether a condition holds at the flags. Of its number the low four bits count.
 pub fn holds(condition: u8, flags: Flags) -> bool
     ensures { result ≡ condition_of condition flags }
 {
-    bit(entry(condition) as u64, flags.number() as u32)
+    bit(u64::from(entry(condition)), u32::from(u8::from(flags)))
 }

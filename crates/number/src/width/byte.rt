@@ -6,66 +6,39 @@ use crate::width::{Arithmetic, Width};
 impl Width for u8 {
     const BYTES: u32 = 1;
 
+    ghost BYTES = { 1 };
+
     const SIGN: u64 = 0x80;
+
+    ghost SIGN = { 0x80 };
 
     ghost size = { 1 };
 
     ghost value = { λ x. x };
 
+    ghost counted = { Prim.search rules };
+
+    ghost topped = { Prim.search rules };
+
     ghost some = { Prim.search rules };
 
     ghost narrow = { Prim.search rules };
 
-    fn byte_count() -> u32 {
-        Self::BYTES
-    }
-
-    fn sign_bit() -> u64 {
-        Self::SIGN
-    }
-
     fn to_u64(self) -> u64 {
-        self as u64
+        u64::from(self)
     }
 
     fn to_i64(self) -> i64 {
-        self.cast_signed() as i64
+        i64::from(self.cast_signed())
     }
 
     fn low(n: u64) -> u8 {
         (n % 0x100) as u8
     }
-
-    fn byte(self, i: u32) -> u8 {
-        let bytes = self.to_le_bytes();
-        if i < Self::BYTES {
-            bytes[i as usize]
-        } else {
-            0
-        }
-    }
-
-    fn from_bytes(bytes: [u8; 8]) -> u8 {
-        u8::from_le_bytes([bytes[0]])
-    }
 }
 
 impl Arithmetic for u8 {
-    fn bits() -> u32 {
-        8 * Self::BYTES
-    }
-
-    fn modulus() -> u64 {
-        2 * Self::SIGN
-    }
-
-    fn to_u32(self) -> u32 {
-        self as u32
-    }
-
-    fn to_i32(self) -> i32 {
-        self.cast_signed() as i32
-    }
+    ghost short = { Prim.search rules };
 
     fn turn(self, by: u32) -> u8 {
         self.rotate_left(by)

@@ -6,23 +6,23 @@ use crate::width::Width;
 impl Width for u64 {
     const BYTES: u32 = 8;
 
+    ghost BYTES = { 8 };
+
     const SIGN: u64 = 0x8000_0000_0000_0000;
+
+    ghost SIGN = { 0x8000_0000_0000_0000 };
 
     ghost size = { 8 };
 
     ghost value = { λ x. x };
 
+    ghost counted = { Prim.search rules };
+
+    ghost topped = { Prim.search rules };
+
     ghost some = { Prim.search rules };
 
     ghost narrow = { Prim.search rules };
-
-    fn byte_count() -> u32 {
-        Self::BYTES
-    }
-
-    fn sign_bit() -> u64 {
-        Self::SIGN
-    }
 
     fn to_u64(self) -> u64 {
         self
@@ -34,18 +34,5 @@ impl Width for u64 {
 
     fn low(n: u64) -> u64 {
         n
-    }
-
-    fn byte(self, i: u32) -> u8 {
-        let bytes = self.to_le_bytes();
-        if i < Self::BYTES {
-            bytes[i as usize]
-        } else {
-            0
-        }
-    }
-
-    fn from_bytes(bytes: [u8; 8]) -> u64 {
-        u64::from_le_bytes(bytes)
     }
 }

@@ -6,66 +6,39 @@ use crate::width::{Arithmetic, Width};
 impl Width for u32 {
     const BYTES: u32 = 4;
 
+    ghost BYTES = { 4 };
+
     const SIGN: u64 = 0x8000_0000;
+
+    ghost SIGN = { 0x8000_0000 };
 
     ghost size = { 4 };
 
     ghost value = { λ x. x };
 
+    ghost counted = { Prim.search rules };
+
+    ghost topped = { Prim.search rules };
+
     ghost some = { Prim.search rules };
 
     ghost narrow = { Prim.search rules };
 
-    fn byte_count() -> u32 {
-        Self::BYTES
-    }
-
-    fn sign_bit() -> u64 {
-        Self::SIGN
-    }
-
     fn to_u64(self) -> u64 {
-        self as u64
+        u64::from(self)
     }
 
     fn to_i64(self) -> i64 {
-        self.cast_signed() as i64
+        i64::from(self.cast_signed())
     }
 
     fn low(n: u64) -> u32 {
         (n % 0x1_0000_0000) as u32
     }
-
-    fn byte(self, i: u32) -> u8 {
-        let bytes = self.to_le_bytes();
-        if i < Self::BYTES {
-            bytes[i as usize]
-        } else {
-            0
-        }
-    }
-
-    fn from_bytes(bytes: [u8; 8]) -> u32 {
-        u32::from_le_bytes([bytes[0], bytes[1], bytes[2], bytes[3]])
-    }
 }
 
 impl Arithmetic for u32 {
-    fn bits() -> u32 {
-        8 * Self::BYTES
-    }
-
-    fn modulus() -> u64 {
-        2 * Self::SIGN
-    }
-
-    fn to_u32(self) -> u32 {
-        self
-    }
-
-    fn to_i32(self) -> i32 {
-        self.cast_signed()
-    }
+    ghost short = { Prim.search rules };
 
     fn turn(self, by: u32) -> u32 {
         self.rotate_left(by)

@@ -1,6 +1,6 @@
-use Rattle.std.proofs.Common.{sym, rules}
-use Rattle.number.proofs.Powers.{far}
+use Rattle.std.proofs.Common.{◌∙◌}
+use Rattle.number.proofs.Powers.{down}
 use Rattle.number.proofs.bits.lowered.Goals as goal
 
-pub returns-else-by-lt64 : goal.returns-else-by-lt64
-returns-else-by-lt64 c = sym (far c.args.n 64 c.args.by (search rules) c.if-by-lt64.false)
+pub returns : goal.returns
+returns c = c.unwrap_or.ensures ∙ down c.checked_shr.result c.args.n c.args.by c.ranges.n.fits c.checked_shr.ensures

@@ -1,8 +1,9 @@
-use Rattle.std.proofs.Common.{◌%◌, ◌<◌, arith, rules}
+use Rattle.std.proofs.Common.{◌%◌, ◌<◌, ◌≡◌, sym, arith, rules}
 use Rattle.number.proofs.Table.{rule}
 use Rattle.number.proofs.flags.entry.Goals as goal
 
 pub returns : goal.returns
 returns c = λ f.
-    let h : c.args.condition % 16 < 16 = omega arith in
-    search (rules, rule f (c.args.condition % 16))
+    let e : c.from.result ≡ c.args.condition % 16 = c.from.ensures in
+    let h : c.from.result < 16 = omega arith in
+    rw (sym e) (search (rules, rule f c.from.result))
