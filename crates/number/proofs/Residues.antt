@@ -1,5 +1,5 @@
 -- What is left of an integer modulo a power of two.
-use Rattle.std.proofs.Common.{◌≡◌, ℕ, suc, ◌+◌, ◌-◌, ◌*◌, ◌/◌, ◌%◌, ◌^◌, ◌<◌, ◌≤◌, ℤ, pos, negsuc, sym, refl, ap, ◌∙◌, add-mul, one-mul, arith, pow_pos, pow-add, w64, of_z}
+use Rattle.std.proofs.Common.{lt_of_lt_of_le, pow_mono, mod-eq_of_lt, ◌≡◌, ℕ, suc, ◌+◌, ◌-◌, ◌*◌, ◌/◌, ◌%◌, ◌^◌, ◌<◌, ◌≤◌, ℤ, pos, negsuc, sym, refl, ap, ◌∙◌, add-mul, one-mul, arith, pow_pos, pow-add, w64, of_z}
 use lib.Signed.{mag}
 use Rattle.std.proofs.lemmas.Nat.{div_below, mod_below, div-add-mod', mod-mul-add}
 use Rattle.number.specs.Words.{residue}
@@ -28,3 +28,12 @@ low_bits w (negsuc n) p h =
     let few : n < 2 ^ (64 - w) * 2 ^ w = omega arith in
     let count : 2 ^ 64 - suc n ≡ 2 ^ (64 - w) * 2 ^ w - 1 - n = omega arith in
     ap (λ x. x % 2 ^ w) count ∙ flipped (2 ^ (64 - w)) (2 ^ w) n (pow_pos w) few
+
+-- of all 64 bits the other way, those of a number of w bits are its own the other way
+pub complement : (w n : ℕ) → w ≤ 64 → n < 2 ^ w → (2 ^ 64 - 1 - n) % 2 ^ w ≡ 2 ^ w - 1 - n
+complement w n p h =
+    let e : (64 - w) + w ≡ 64 = omega arith in
+    let whole : 2 ^ 64 ≡ 2 ^ (64 - w) * 2 ^ w = ap (λ k. 2 ^ k) (sym e) ∙ pow-add 2 (64 - w) w in
+    let all : n < 2 ^ 64 = lt_of_lt_of_le h (pow_mono p) in
+    let few : n < 2 ^ (64 - w) * 2 ^ w = omega arith in
+    ap (λ x. (x - 1 - n) % 2 ^ w) whole ∙ flipped (2 ^ (64 - w)) (2 ^ w) n (pow_pos w) few ∙ ap (λ r. 2 ^ w - 1 - r) (mod-eq_of_lt h)

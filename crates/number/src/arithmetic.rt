@@ -4,7 +4,7 @@ ghost use Rattle.std.specs.Int.{from_bool};
 ghost use Rattle.number.specs.Words.{signed, fits as fits_in};
 ghost use Rattle.number.specs.Outcomes.{shown, outcome, added, subtracted, anded, ored, xored, inverted, tested};
 
-use crate::bits::{bit, in_both, in_either, in_one};
+use crate::bits::bit;
 use crate::flags::Flags;
 use crate::width::{Arithmetic, low_signed};
 
@@ -36,46 +36,22 @@ fn fits<W: Arithmetic>(z: i64) -> bool
     -half <= z && z < half
 }
 
-// The sum of the numbers with their signs.
-fn signed_sum<W: Arithmetic>(dst: W, src: W, carry: bool) -> i64
-    ensures { result ≡ signed (8 * W.Width.size) (W.Width.value dst) +ℤ signed (8 * W.Width.size) (W.Width.value src) +ℤ pos (from_bool carry) }
-{
-    i64::from(dst.to_i32()) + i64::from(src.to_i32()) + i64::from(carry)
-}
-
 // dst + src, and 1 more with a carry.
 pub fn add<W: Arithmetic>(dst: W, src: W, carry: bool) -> Computed<W>
     ensures { shown W.Width.value result ≡ added (8 * W.Width.size) (W.Width.value dst) (W.Width.value src) carry }
 {
     let sum = u64::from(dst.to_u32()) + u64::from(src.to_u32()) + u64::from(carry);
-    with_flags(
-        W::low(sum),
-        sum >= W::modulus(),
-        !fits::<W>(signed_sum(dst, src, carry)),
-    )
-}
-
-// The difference of the numbers without their signs.
-fn difference<W: Arithmetic>(dst: W, src: W, borrow: bool) -> i64
-    ensures { result ≡ pos (W.Width.value dst) -ℤ pos (W.Width.value src) -ℤ pos (from_bool borrow) }
-{
-    i64::from(dst.to_u32()) - i64::from(src.to_u32()) - i64::from(borrow)
-}
-
-// The difference of the numbers with their signs.
-fn signed_difference<W: Arithmetic>(dst: W, src: W, borrow: bool) -> i64
-    ensures { result ≡ signed (8 * W.Width.size) (W.Width.value dst) -ℤ signed (8 * W.Width.size) (W.Width.value src) -ℤ pos (from_bool borrow) }
-{
-    i64::from(dst.to_i32()) - i64::from(src.to_i32()) - i64::from(borrow)
+    let exact = i64::from(dst.to_i32()) + i64::from(src.to_i32()) + i64::from(carry);
+    with_flags(W::low(sum), sum >= W::modulus(), !fits::<W>(exact))
 }
 
 // dst - src, and 1 less with a borrow. From 0 it negates, and without its number it compares.
 pub fn subtract<W: Arithmetic>(dst: W, src: W, borrow: bool) -> Computed<W>
     ensures { shown W.Width.value result ≡ subtracted (8 * W.Width.size) (W.Width.value dst) (W.Width.value src) borrow }
 {
-    let left = difference(dst, src, borrow);
-    let overflow = !fits::<W>(signed_difference(dst, src, borrow));
-    with_flags(low_signed(left), left < 0, overflow)
+    let left = i64::from(dst.to_u32()) - i64::from(src.to_u32()) - i64::from(borrow);
+    let exact = i64::from(dst.to_i32()) - i64::from(src.to_i32()) - i64::from(borrow);
+    with_flags(low_signed(left), left < 0, !fits::<W>(exact))
 }
 
 // The bits that an operation makes of those of both numbers, with CY as it was before.
@@ -97,28 +73,28 @@ fn bitwise<W: Arithmetic, F: FnOnce(u64, u64) -> u64>(
 pub fn and<W: Arithmetic>(dst: W, src: W, before: Flags) -> Computed<W>
     ensures { shown W.Width.value result ≡ anded (8 * W.Width.size) (W.Width.value dst) (W.Width.value src) before }
 {
-    bitwise(in_both, dst, src, before)
+    bitwise(|a, b| a & b, dst, src, before)
 }
 
 // The bits that at least one has.
 pub fn or<W: Arithmetic>(dst: W, src: W, before: Flags) -> Computed<W>
     ensures { shown W.Width.value result ≡ ored (8 * W.Width.size) (W.Width.value dst) (W.Width.value src) before }
 {
-    bitwise(in_either, dst, src, before)
+    bitwise(|a, b| a | b, dst, src, before)
 }
 
 // The bits that just one has.
 pub fn xor<W: Arithmetic>(dst: W, src: W, before: Flags) -> Computed<W>
     ensures { shown W.Width.value result ≡ xored (8 * W.Width.size) (W.Width.value dst) (W.Width.value src) before }
 {
-    bitwise(in_one, dst, src, before)
+    bitwise(|a, b| a ^ b, dst, src, before)
 }
 
 // Each bit the other way.
 pub fn not<W: Arithmetic>(src: W, before: Flags) -> Computed<W>
     ensures { shown W.Width.value result ≡ inverted (8 * W.Width.size) (W.Width.value src) before }
 {
-    with_flags(W::low(W::modulus() - 1 - src.to_u64()), before.cy, false)
+    with_flags(W::low(!src.to_u64()), before.cy, false)
 }
 
 // The number as it is, with its flags.

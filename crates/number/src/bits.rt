@@ -1,5 +1,5 @@
 // Bits of a number, and numbers moved along their bits, at any distance.
-ghost use Rattle.std.specs.Prelude.{◌≡◌, ℕ, ◌*◌, ◌/◌, ◌%◌, ◌^◌, ◌<◌, ◌≤◌, bit_and, bit_or, bit_xor};
+ghost use Rattle.std.specs.Prelude.{◌≡◌, ℕ, ◌*◌, ◌/◌, ◌%◌, ◌^◌, ◌≤◌};
 ghost use Rattle.std.specs.Int.Signed.{shr_z};
 ghost use Rattle.number.specs.Words.{bit as bit_of, signed_bit, from_bytes};
 
@@ -31,31 +31,8 @@ pub fn bit_signed(z: i32, i: u32) -> bool
     lowered_signed(z, i).rem_euclid(2) == 1
 }
 
-// The bits that both have.
-pub fn in_both(a: u64, b: u64) -> u64
-    ensures bits { result ≡ bit_and a b }
-    ensures bound { (w : ℕ) → a < 2 ^ w → b < 2 ^ w → result < 2 ^ w }
-{
-    a & b
-}
-
-// The bits that one of them has.
-pub fn in_either(a: u64, b: u64) -> u64
-    ensures bits { result ≡ bit_or a b }
-    ensures bound { (w : ℕ) → a < 2 ^ w → b < 2 ^ w → result < 2 ^ w }
-{
-    a | b
-}
-
-// The bits that just one of them has.
-pub fn in_one(a: u64, b: u64) -> u64
-    ensures bits { result ≡ bit_xor a b }
-    ensures bound { (w : ℕ) → a < 2 ^ w → b < 2 ^ w → result < 2 ^ w }
-{
-    a ^ b
-}
-
 // The number whose bytes these are, the lowest first: its low bytes are the first ones.
+// Why a borrow: of an array that is lent it is known that each byte is below 256, and of one that is handed on it is not.
 pub fn joined(bytes: &[u8; 8]) -> u64
     ensures { (k : ℕ) → k ≤ 8 → result % 2 ^ (8 * k) ≡ from_bytes k bytes.now }
 {

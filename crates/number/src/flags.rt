@@ -25,6 +25,7 @@ impl From<Flags> for u8 {
 }
 
 // For each condition, where it holds: bit k says whether it does at the flags whose number is k.
+// Why a table of numbers, and no `match`: its rule is proved once, of all entries together.
 const HOLDS: [u16; 16] = [
     0xf0f0, // OV
     0x0f0f, // not OV
@@ -45,6 +46,7 @@ const HOLDS: [u16; 16] = [
 ];
 
 // The table's entry for a condition. Of its number the low four bits count.
+// Why a u8, and no enum: each byte is a condition, and no caller has to make sure of one first.
 fn entry(condition: u8) -> u16
     ensures { (f : FlagSet) → bit_of (number_of f) result ≡ condition_of condition f }
 {
