@@ -3,7 +3,7 @@
 // Of the answer the first word is the number, and the second the flags: CY, OV, S, Z.
 #![tactic(auto)]
 
-use anyhow::anyhow;
+use anyhow::{Context, bail};
 use number::arithmetic::{Computed, add, and, not, or, subtract, test, xor};
 use number::flags::{Flags, holds};
 use number::shift::{rotate, shift_arithmetic, shift_logical};
@@ -13,157 +13,144 @@ use std::io::{BufRead, BufReader};
 #[derive(Drop)]
 struct Case<'a> {
     operation: &'a str,
-    width: u32,
+    size: Size,
     dst: u64,
     src: &'a str,
     flags: Flags,
+}
+
+impl<'a> TryFrom<&'a str> for Case<'a> {
+    type Error = anyhow::Error;
+
+    fn try_from(line: &'a str) -> anyhow::Result<Case<'a>> {
+        let mut words = line.split_whitespace();
+        let mut word = || words.next().context("a word is missing");
+        Ok(Case {
+            operation: word()?,
+            size: size(word()?)?,
+            dst: hex(word()?)?,
+            src: word()?,
+            flags: flags(hex(word()?)?),
+        })
+    }
+}
+
+impl<'a> Case<'a> {
+    // SRC as a number of the width.
+    fn number<W: Width>(&self) -> anyhow::Result<W> {
+        Ok(W::low(hex(self.src)?))
+    }
+
+    // SRC as a count of bits.
+    fn count(&self) -> anyhow::Result<i8> {
+        Ok(self.src.parse::<i8>()?)
+    }
 }
 
 fn hex(word: &str) -> anyhow::Result<u64> {
     Ok(u64::from_str_radix(word, 16)?)
 }
 
-fn word<'a>(word: Option<&'a str>) -> anyhow::Result<&'a str> {
-    match word {
-        Some(word) => Ok(word),
-        None => Err(anyhow!("a word is missing")),
+// The width of so many bits.
+fn size(bits: &str) -> anyhow::Result<Size> {
+    match bits {
+        "8" => Ok(Size::Byte),
+        "16" => Ok(Size::Halfword),
+        "32" => Ok(Size::Word),
+        "64" => Ok(Size::Doubleword),
+        _ => bail!("no such width"),
     }
 }
 
 fn flags(number: u64) -> Flags {
     Flags {
-        cy: number / 8 % 2 == 1,
-        ov: number / 4 % 2 == 1,
-        s: number / 2 % 2 == 1,
-        z: number % 2 == 1,
-    }
-}
-
-fn read<'a>(line: &'a str) -> anyhow::Result<Case<'a>> {
-    let mut words = line.split_whitespace();
-    Ok(Case {
-        operation: word(words.next())?,
-        width: word(words.next())?.parse::<u32>()?,
-        dst: hex(word(words.next())?)?,
-        src: word(words.next())?,
-        flags: flags(hex(word(words.next())?)?),
-    })
-}
-
-fn with_count<W: Arithmetic>(case: &Case, dst: W) -> anyhow::Result<Computed<W>> {
-    let count = case.src.parse::<i8>()?;
-    match case.operation {
-        "shl" => Ok(shift_logical(dst, count)),
-        "sha" => Ok(shift_arithmetic(dst, count)),
-        "rot" => Ok(rotate(dst, count)),
-        _ => Err(anyhow!("no such operation")),
+        cy: number & 8 != 0,
+        ov: number & 4 != 0,
+        s: number & 2 != 0,
+        z: number & 1 != 0,
     }
 }
 
 fn computed<W: Arithmetic>(case: &Case) -> anyhow::Result<Computed<W>> {
     let dst = W::low(case.dst);
     let before = case.flags;
-    match case.operation {
-        "shl" | "sha" | "rot" => return with_count(case, dst),
-        _ => {}
-    }
-    let src = W::low(hex(case.src)?);
-    match case.operation {
-        "add" => Ok(add(dst, src, before.cy)),
-        "sub" => Ok(subtract(dst, src, before.cy)),
-        "and" => Ok(and(dst, src, before)),
-        "or" => Ok(or(dst, src, before)),
-        "xor" => Ok(xor(dst, src, before)),
-        "not" => Ok(not(src, before)),
-        "test" => Ok(test(src)),
-        "inc" => Ok(add(src, one(), false)),
-        "dec" => Ok(subtract(src, one(), false)),
-        "neg" => Ok(subtract(zero(), src, false)),
-        _ => Err(anyhow!("no such operation")),
-    }
-}
-
-// The number, extended from a width to another.
-fn extended(case: &Case) -> anyhow::Result<u64> {
-    let to = case.src.parse::<u32>()?;
-    let byte = u8::low(case.dst);
-    let halfword = u16::low(case.dst);
-    match (case.operation, case.width, to) {
-        ("movs", 8, 16) => Ok(sign_extend::<u8, u16>(byte).to_u64()),
-        ("movs", 8, 32) => Ok(sign_extend::<u8, u32>(byte).to_u64()),
-        ("movs", 16, 32) => Ok(sign_extend::<u16, u32>(halfword).to_u64()),
-        ("movz", 8, 16) => Ok(zero_extend::<u8, u16>(byte).to_u64()),
-        ("movz", 8, 32) => Ok(zero_extend::<u8, u32>(byte).to_u64()),
-        ("movz", 16, 32) => Ok(zero_extend::<u16, u32>(halfword).to_u64()),
-        _ => Err(anyhow!("no such extension")),
-    }
-}
-
-// The byte at a place, and the number that the bytes of another one make.
-fn bytes<W: Width>(case: &Case) -> anyhow::Result<(u64, u64)> {
-    let place = case.src.parse::<u32>()?;
-    let byte = W::low(case.dst).byte(place) as u64;
-    Ok((byte, W::from_bytes(case.dst.to_le_bytes()).to_u64()))
-}
-
-fn size(width: u32) -> anyhow::Result<Size> {
-    match width {
-        8 => Ok(Size::Byte),
-        16 => Ok(Size::Halfword),
-        32 => Ok(Size::Word),
-        64 => Ok(Size::Doubleword),
-        _ => Err(anyhow!("no such width")),
-    }
-}
-
-fn show_bytes(rt: &HostRuntime, case: &Case) -> anyhow::Result<()> {
-    let (byte, number) = match size(case.width)? {
-        Size::Byte => bytes::<u8>(case)?,
-        Size::Halfword => bytes::<u16>(case)?,
-        Size::Word => bytes::<u32>(case)?,
-        Size::Doubleword => bytes::<u64>(case)?,
-    };
-    let count = size(case.width)?.bytes();
-    println!(rt; "{byte:x} {number:x} {count}")?;
-    Ok(())
+    Ok(match case.operation {
+        "add" => add(dst, case.number()?, before.cy),
+        "sub" => subtract(dst, case.number()?, before.cy),
+        "and" => and(dst, case.number()?, before),
+        "or" => or(dst, case.number()?, before),
+        "xor" => xor(dst, case.number()?, before),
+        "not" => not(case.number()?, before),
+        "test" => test(case.number()?),
+        "inc" => add(case.number()?, one(), false),
+        "dec" => subtract(case.number()?, one(), false),
+        "neg" => subtract(zero(), case.number()?, false),
+        "shl" => shift_logical(dst, case.count()?),
+        "sha" => shift_arithmetic(dst, case.count()?),
+        "rot" => rotate(dst, case.count()?),
+        _ => bail!("no such operation"),
+    })
 }
 
 fn show_computed<W: Arithmetic>(rt: &HostRuntime, case: &Case) -> anyhow::Result<()> {
     let result = computed::<W>(case)?;
     let number = result.value.to_u64();
-    let after = result.flags.number();
+    let after = u8::from(result.flags);
     println!(rt; "{number:x} {after:04b}")?;
     Ok(())
 }
 
-fn show(rt: &HostRuntime, case: &Case) -> anyhow::Result<()> {
-    match (case.operation, case.width) {
-        ("movs" | "movz", _) => {
-            let number = extended(case)?;
-            println!(rt; "{number:x}")?;
-            Ok(())
-        }
-        ("if", _) => {
-            let taken = holds((case.dst % 256) as u8, case.flags);
-            println!(rt; "{taken}")?;
-            Ok(())
-        }
-        ("bytes", _) => show_bytes(rt, case),
-        (_, 8) => show_computed::<u8>(rt, case),
-        (_, 16) => show_computed::<u16>(rt, case),
-        (_, 32) => show_computed::<u32>(rt, case),
-        _ => Err(anyhow!("no such width")),
-    }
-}
-
-fn run(rt: &HostRuntime) -> anyhow::Result<()> {
-    for line in BufReader::new(rt.alloc(), rt.stdin())?.lines(rt.alloc()) {
-        let line = line?;
-        show(rt, &read(line.as_str())?)?;
-    }
+// The number in a wider width, with its sign or with zeros above it.
+fn show_extended<A: Width, B: Width>(rt: &HostRuntime, case: &Case) -> anyhow::Result<()> {
+    let narrow = A::low(case.dst);
+    let wide: B = match case.operation {
+        "movs" => sign_extend(narrow),
+        _ => zero_extend(narrow),
+    };
+    let number = wide.to_u64();
+    println!(rt; "{number:x}")?;
     Ok(())
 }
 
+// The byte at a place, the number that the bytes of DST make, and how many bytes that number has.
+fn show_bytes<W: Width>(rt: &HostRuntime, case: &Case) -> anyhow::Result<()> {
+    let place = case.src.parse::<u32>()?;
+    let byte = W::low(case.dst).byte(place);
+    let number = W::from_bytes(case.dst.to_le_bytes()).to_u64();
+    let count = case.size.bytes();
+    println!(rt; "{byte:x} {number:x} {count}")?;
+    Ok(())
+}
+
+fn show_taken(rt: &HostRuntime, case: &Case) -> anyhow::Result<()> {
+    let taken = holds(u8::low(case.dst), case.flags);
+    println!(rt; "{taken}")?;
+    Ok(())
+}
+
+fn show(rt: &HostRuntime, case: &Case) -> anyhow::Result<()> {
+    match (case.operation, case.size) {
+        ("if", _) => show_taken(rt, case),
+        ("movs" | "movz", from) => match (from, size(case.src)?) {
+            (Size::Byte, Size::Halfword) => show_extended::<u8, u16>(rt, case),
+            (Size::Byte, Size::Word) => show_extended::<u8, u32>(rt, case),
+            (Size::Halfword, Size::Word) => show_extended::<u16, u32>(rt, case),
+            _ => bail!("no such extension"),
+        },
+        ("bytes", Size::Byte) => show_bytes::<u8>(rt, case),
+        ("bytes", Size::Halfword) => show_bytes::<u16>(rt, case),
+        ("bytes", Size::Word) => show_bytes::<u32>(rt, case),
+        ("bytes", Size::Doubleword) => show_bytes::<u64>(rt, case),
+        (_, Size::Byte) => show_computed::<u8>(rt, case),
+        (_, Size::Halfword) => show_computed::<u16>(rt, case),
+        (_, Size::Word) => show_computed::<u32>(rt, case),
+        (_, Size::Doubleword) => bail!("no arithmetic on doublewords"),
+    }
+}
+
 fn main(rt: HostRuntime) -> anyhow::Result<()> {
-    run(&rt)
+    for line in BufReader::new(rt.alloc(), rt.stdin())?.lines(rt.alloc()) {
+        show(&rt, &Case::try_from(line?.as_str())?)?;
+    }
+    Ok(())
 }
