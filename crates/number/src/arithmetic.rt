@@ -77,6 +77,7 @@ pub fn and<W: Arithmetic>(dst: W, src: W, before: Flags) -> Computed<W>
 }
 
 // The bits that at least one has.
+#[tactic(auto, using(std::proofs::lemmas::Nat::or_lt))]
 pub fn or<W: Arithmetic>(dst: W, src: W, before: Flags) -> Computed<W>
     ensures { shown W.Width.value result ≡ ored (8 * W.Width.size) (W.Width.value dst) (W.Width.value src) before }
 {
@@ -84,6 +85,7 @@ pub fn or<W: Arithmetic>(dst: W, src: W, before: Flags) -> Computed<W>
 }
 
 // The bits that just one has.
+#[tactic(auto, using(std::proofs::lemmas::Nat::xor_lt))]
 pub fn xor<W: Arithmetic>(dst: W, src: W, before: Flags) -> Computed<W>
     ensures { shown W.Width.value result ≡ xored (8 * W.Width.size) (W.Width.value dst) (W.Width.value src) before }
 {
@@ -91,6 +93,7 @@ pub fn xor<W: Arithmetic>(dst: W, src: W, before: Flags) -> Computed<W>
 }
 
 // Each bit the other way.
+#[tactic(auto, using(crate::proofs::Residues::complement))]
 pub fn not<W: Arithmetic>(src: W, before: Flags) -> Computed<W>
     ensures { shown W.Width.value result ≡ inverted (8 * W.Width.size) (W.Width.value src) before }
 {

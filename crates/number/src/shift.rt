@@ -21,6 +21,7 @@ fn product_fits<W: Arithmetic>(x: W, by: u32) -> bool
 }
 
 // The number times 2^by: right in the bits of the width, and in the next one.
+#[tactic(auto, using(crate::proofs::Powers::up_low, crate::proofs::Powers::up_next))]
 fn raised<W: Arithmetic>(x: W, by: u32) -> u64
     ensures low { result % 2 ^ (8 * W.Width.size) ≡ W.Width.value x * 2 ^ by % 2 ^ (8 * W.Width.size) }
     ensures next { bit_of (8 * W.Width.size) result ≡ bit_of (8 * W.Width.size) (W.Width.value x * 2 ^ by) }

@@ -122,6 +122,7 @@ pub trait Arithmetic: Width {
     }
 
     // the number, with its sign
+    #[tactic(auto, using(crate::proofs::Spans::fits_word))]
     final fn to_i32(self) -> i32
         ensures { result ≡ signed (8 * Self.Width.size) (Self.Width.value self) }
     {
@@ -139,6 +140,7 @@ pub fn zero<W: Width>() -> W
 }
 
 // 1, as a number of the width.
+#[tactic(auto, using(std::proofs::lemmas::Nat::pow_below))]
 pub fn one<W: Width>() -> W
     ensures { W.Width.value result ≡ 1 }
 {
@@ -146,6 +148,7 @@ pub fn one<W: Width>() -> W
 }
 
 // The number of the low bits of a number with a sign.
+#[tactic(auto, using(crate::proofs::Residues::low_bits))]
 pub fn low_signed<W: Width>(z: i64) -> W
     ensures { W.Width.value result ≡ residue (8 * W.Width.size) z }
 {

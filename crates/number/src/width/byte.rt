@@ -40,6 +40,7 @@ impl Width for u8 {
 impl Arithmetic for u8 {
     ghost short = { Prim.search rules };
 
+    #[tactic(auto, using(crate::proofs::Powers::turns))]
     fn turn(self, by: u32) -> u8 {
         self.rotate_left(by)
     }

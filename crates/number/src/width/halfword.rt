@@ -40,6 +40,7 @@ impl Width for u16 {
 impl Arithmetic for u16 {
     ghost short = { Prim.search rules };
 
+    #[tactic(auto, using(crate::proofs::Powers::turns))]
     fn turn(self, by: u32) -> u16 {
         self.rotate_left(by)
     }

@@ -40,6 +40,7 @@ impl Width for u32 {
 impl Arithmetic for u32 {
     ghost short = { Prim.search rules };
 
+    #[tactic(auto, using(crate::proofs::Powers::turns))]
     fn turn(self, by: u32) -> u32 {
         self.rotate_left(by)
     }
