@@ -1,5 +1,5 @@
 -- Storing and listing bytes one by one.
-use Rattle.std.proofs.Common.{◌≡◌, ℕ, suc, ◌+◌, ◌<◌, ◌≤◌, List, [], ◌∷◌, ◌++◌, length, get_or, take, drop, set, sym, refl, ap, ◌∙◌, append_assoc, arith}
+use Rattle.std.proofs.Common.{◌≡◌, ℕ, suc, ◌+◌, ◌<◌, List, [], ◌∷◌, ◌++◌, length, get_or, take, drop, set, sym, refl, ap, ◌∙◌, append_assoc, arith}
 use Rattle.std.proofs.lemmas.List.{take_more, take_more_set, length-take-le, take-append-drop}
 use Rattle.board.specs.declared.Right.{Right}
 use Rattle.board.specs.Meaning.{stored}
@@ -7,7 +7,7 @@ use Rattle.board.specs.Block.{above}
 use Rattle.bus.specs.declared.line.WriteLine.{WriteLine}
 use Rattle.bus.specs.Buffer.{cells, buffered}
 use Rattle.bus.specs.Commit.{stores, write_lines, entered}
-use Rattle.bus.proofs.Buffers.{cells_push, length_cells}
+use Rattle.bus.proofs.Buffers.{cells_push}
 
 stores_push : (rights : ℕ → Right) (cs : List (ℕ × ℕ)) (a b : ℕ) (f : ℕ → ℕ) → stores rights (cs ++ ((a, b) ∷ [])) f ≡ stored (rights a) a b (stores rights cs f)
 stores_push rights [] a b f = refl
@@ -27,9 +27,6 @@ module _ (base : ℕ) (bytes : List ℕ) where
   buffered_more i h =
       let l : 0 + length (take i bytes) ≡ i = omega (arith, length-take-le i bytes (omega arith)) in
       ap (cells base 0) (take_more bytes i 0 h) ∙ (cells_push base 0 (take i bytes) (get_or bytes i 0) ∙ ap (λ k. buffered base i bytes ++ ((above base k, get_or bytes i 0) ∷ [])) l)
-
-  pub length_buffered : (n : ℕ) → n ≤ length bytes → length (buffered base n bytes) ≡ n
-  length_buffered n h = length_cells base 0 (take n bytes) ∙ length-take-le n bytes h
 
   -- one byte more is stored
   pub stores_more : (rights now_rights : ℕ → Right) (f g g' : ℕ → ℕ) (i : ℕ) → i < length bytes → now_rights ≡ rights → g ≡ stores rights (buffered base i bytes) f → g' ≡ stored (now_rights (above base i)) (above base i) (get_or bytes i 0) g → g' ≡ stores rights (buffered base (i + 1) bytes) f

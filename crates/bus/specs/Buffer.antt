@@ -1,5 +1,5 @@
 -- The store buffer: the bytes that a step has set, a run of at most 256 from one address on, past FFFFFFFFh to 0.
-use Rattle.std.specs.Prelude.{◌≡◌, ℕ, suc, ◌+◌, ◌-◌, ◌%◌, ◌^◌, ◌<◌, ◌≤◌, Bool, ◌&&◌, ◌||◌, List, [], ◌∷◌, length, take, Some, None, Option, ◌==◌, nat_lt}
+use Rattle.std.specs.Prelude.{◌≡◌, ℕ, suc, ◌+◌, ◌-◌, ◌%◌, ◌^◌, ◌<◌, ◌≤◌, Bool, true, ◌&&◌, List, [], ◌∷◌, length, take, Some, None, Option, ◌==◌, nat_lt}
 use Rattle.board.specs.Block.{above}
 use Rattle.bus.specs.Sheets.{latest}
 
@@ -20,9 +20,10 @@ last_set a cs = latest (λ c. c.0) (λ c. Some c.1) a None cs
 abbrev pub offset : ℕ → ℕ → ℕ
 offset base a = (a + (2 ^ 32 - base)) % 2 ^ 32
 
--- whether a byte at address a joins n bytes from base on: the first may stand anywhere, each other right after the run
-abbrev pub joins : ℕ → ℕ → ℕ → Bool
-joins base n a = nat_lt n 256 && (n == 0 || offset base a == n)
+-- whether a byte at address a joins the bytes that are set: the first may stand anywhere, each other right after the run, 256 at the most
+abbrev pub joins : List (ℕ × ℕ) → ℕ → Bool
+joins [] a = true
+joins (c ∷ cs) a = nat_lt (length (c ∷ cs)) 256 && offset c.0 a == length (c ∷ cs)
 
 -- bytes set in one run of at most 256, from one address on
 pub record OneRun (own : List (ℕ × ℕ)) : Type 0 where

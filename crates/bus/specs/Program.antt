@@ -6,7 +6,8 @@ use Rattle.bus.specs.declared.refusal.Refusal.{Refusal}
 use Rattle.bus.specs.declared.refusal.Refusal.TheVariants.{NoRight}
 use Rattle.bus.specs.declared.line.ReadLine.{ReadLine}
 use Rattle.bus.specs.declared.line.WriteLine.{WriteLine}
-use Rattle.bus.specs.Sheets.{names, latest}
+use Rattle.bus.specs.Sheets.{names}
+use Rattle.bus.specs.Buffer.{last_set}
 
 -- A program of accesses: it gives a value, refuses, or does one access and goes on.
 -- `fetch a k` fetches the byte at a and goes on as k says of that byte; `ask a k` asks for the right to store at a;
@@ -40,7 +41,7 @@ pub record Trail : Type 0 where
 
 -- the byte that the step has set at address a
 abbrev pub own_byte : ℕ → Trail → Option ℕ
-own_byte a t = latest (λ c. c.0) (λ c. Some c.1) a None t.own
+own_byte a t = last_set a t.own
 
 -- whether a used line of either sheet names address a
 abbrev pub listed : ℕ → World → Trail → Bool

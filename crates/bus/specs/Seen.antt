@@ -2,11 +2,10 @@
 use Rattle.std.specs.Prelude.{◌≡◌, ℕ, ◌≤◌, List, ◌++◌, length, take, drop, Result}
 use Rattle.std.specs.Borrow.{GName, MutBor}
 use Rattle.board.specs.declared.Right.{Right}
-use Rattle.bus.specs.declared.buffer.StoreBuffer.{StoreBuffer}
 use Rattle.bus.specs.declared.line.ReadLine.{ReadLine}
 use Rattle.bus.specs.declared.line.WriteLine.{WriteLine}
 use Rattle.bus.specs.declared.refusal.Refusal.{Refusal}
-use Rattle.bus.specs.Buffer.{buffered, OneRun}
+use Rattle.bus.specs.Buffer.{OneRun}
 use Rattle.bus.specs.Program.{Program, World, Trail, runs, Leads}
 
 -- a list that begins with another
@@ -50,11 +49,11 @@ pub record Runs {A : Type 0} (p : Program A) (v : Seen) (r : Result A Refusal) (
   pub later : Later v.used v.sheet w.used w.sheet
 
 -- what the bus of a step shows, on a board with those rights and bytes, a reads sheet of which so many lines are used, the used lines of the
--- writes sheet, and a store buffer
-abbrev pub step_seen : (ℕ → Right) → (ℕ → ℕ) → MutBor (List ReadLine) → ℕ → List WriteLine → StoreBuffer → Seen
-step_seen rights bytes reads used writes buffer = record {
+-- writes sheet, and the bytes that the step has set, each with its address
+abbrev pub step_seen : (ℕ → Right) → (ℕ → ℕ) → MutBor (List ReadLine) → ℕ → List WriteLine → List (ℕ × ℕ) → Seen
+step_seen rights bytes reads used writes own = record {
   world = record { rights = rights; bytes = bytes; writes = writes };
-  trail = record { reads = take used reads.now; own = buffered buffer.base buffer.len buffer.bytes };
+  trail = record { reads = take used reads.now; own = own };
   sheet = reads.now;
   used = used;
   loan = reads.ghost_name;

@@ -1,23 +1,37 @@
 // The store buffer of one step.
-ghost use Rattle.std.specs.Prelude.{◌≡◌, ℕ, ◌≤◌, true, [], ◌∷◌, ◌++◌, if◌then◌else◌};
-ghost use Rattle.bus.specs.Buffer.{buffered, last_set, joins, OneRun};
+ghost use Rattle.std.specs.Prelude.{◌≡◌, true, [], ◌∷◌, ◌++◌, if◌then◌else◌};
+ghost use Rattle.bus.specs.Buffer.{last_set, joins, OneRun};
+
+use std::marker::Model;
 
 mod commit;
 
 const CAPACITY: usize = 256;
 
 // Bytes that a step has set and that wait for it to be accepted: a run from one address on.
-#[derive(Clone, Copy)]
+// Why an array with a length, and no Vec: a step allocates nothing.
+#[derive(Drop)]
 pub struct StoreBuffer {
     base: u32,
     len: usize,
     bytes: [u8; 256],
-    ghost ok: { len ≤ 256 },
+}
+
+// Clauses see the bytes set, each with its address, in order.
+impl Model for StoreBuffer {
+    ghost use Rattle.std.specs.Prelude.{ℕ, ◌≤◌, List};
+    ghost use Rattle.bus.specs.Buffer.{buffered};
+
+    ghost Value = { List (ℕ × ℕ) };
+
+    ghost view = { λ b. buffered b.base b.len b.bytes };
+
+    ghost invariant = { λ b. b.len ≤ 256 };
 }
 
 impl StoreBuffer {
     pub fn new() -> StoreBuffer
-        ensures { buffered result.base result.len result.bytes ≡ [] }
+        ensures { result ≡ [] }
     {
         StoreBuffer {
             base: 0,
@@ -28,34 +42,32 @@ impl StoreBuffer {
 
     // The byte set last at an address.
     pub fn get(&self, address: u32) -> Option<u8>
-        ensures { result ≡ last_set address (buffered self.now.base self.now.len self.now.bytes) }
+        ensures { result ≡ last_set address self.now }
     {
         let i = address.wrapping_sub(self.base) as usize;
-        if i < self.len {
-            Some(self.bytes[i])
-        } else {
-            None
-        }
+        self.bytes[..self.len].get(i).copied()
     }
 
     // Sets one byte more where it joins the run, and so wherever the bytes stay one run.
     pub fn put(&mut self, address: u32, byte: u8)
-        ensures joined { OneRun (buffered self.old.base self.old.len self.old.bytes ++ ((address, byte) ∷ [])) → joins self.old.base self.old.len address ≡ true }
-        ensures after { buffered self.new.base self.new.len self.new.bytes ≡ (if joins self.old.base self.old.len address then buffered self.old.base self.old.len self.old.bytes ++ ((address, byte) ∷ []) else buffered self.old.base self.old.len self.old.bytes) }
+        ensures joined { OneRun (self.old ++ ((address, byte) ∷ [])) → joins self.old address ≡ true }
+        ensures after { self.new ≡ (if joins self.old address then self.old ++ ((address, byte) ∷ []) else self.old) }
     {
-        let len = self.len;
-        if !may_join(self.base, len, address) {
+        if !self.may_join(address) {
             return;
         }
-        self.base = if len == 0 { address } else { self.base };
-        self.bytes[len] = byte;
-        self.len = len + 1;
+        self.bytes[self.len] = byte;
+        if self.len == 0 {
+            self.base = address;
+        }
+        self.len += 1;
     }
-}
 
-// Whether a byte at `address` joins the `len` bytes from `base` on.
-fn may_join(base: u32, len: usize, address: u32) -> bool
-    ensures { result ≡ joins base len address }
-{
-    len < CAPACITY && (len == 0 || address.wrapping_sub(base) as usize == len)
+    // Whether a byte at an address joins the run.
+    fn may_join(&self, address: u32) -> bool
+        ensures { result ≡ joins self.now address }
+    {
+        let place = address.wrapping_sub(self.base) as usize;
+        self.len == 0 || (self.len < CAPACITY && place == self.len)
+    }
 }

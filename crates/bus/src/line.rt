@@ -3,14 +3,14 @@ ghost use Rattle.std.specs.Prelude.{◌≡◌, ℕ};
 ghost use Rattle.bus.specs.Sheets.{names as names_in};
 
 // A line of the reads sheet: a byte that was fetched from the board.
-#[derive(Clone, Copy, PartialEq, Eq, Debug)]
+#[derive(Clone, Copy, PartialEq, Eq, Debug, Default)]
 pub struct ReadLine {
     pub address: u32,
     pub byte: u8,
 }
 
 // A line of the writes sheet: a byte that a step stored on the board. The first completed step has number 1.
-#[derive(Clone, Copy, PartialEq, Eq, Debug)]
+#[derive(Clone, Copy, PartialEq, Eq, Debug, Default)]
 pub struct WriteLine {
     pub step: u32,
     pub address: u32,
@@ -41,13 +41,14 @@ impl Line for WriteLine {
     }
 }
 
-// Whether some line names the address. Every line is looked at.
+// Whether some line names the address.
 pub fn names<L: Line>(lines: &[L], address: u32) -> bool
     ensures { result ≡ names_in L.Line.at address lines.now }
 {
+    // Why a loop, and no `any`: every line is looked at, also after a hit.
     let mut found = false;
     for line in lines {
-        found = found | (line.address() == address);
+        found |= line.address() == address;
     }
     found
 }

@@ -55,17 +55,17 @@ impl Refusal {
         ensures { result ≡ place_of self }
     {
         match self {
-            Refusal::NoRight(place) => place,
-            Refusal::NotServed(place) => place,
-            Refusal::ReservedEncoding(place) => place,
-            Refusal::ForbiddenMode(place) => place,
-            Refusal::BadLengthByte(place) => place,
-            Refusal::TooLong(place) => place,
-            Refusal::ReadsFull => 0,
-            Refusal::WritesFull => 0,
-            Refusal::SheetTooShort => 0,
-            Refusal::NoSuchRegister => 0,
-            Refusal::StepLimit => 0,
+            Refusal::NoRight(place)
+            | Refusal::NotServed(place)
+            | Refusal::ReservedEncoding(place)
+            | Refusal::ForbiddenMode(place)
+            | Refusal::BadLengthByte(place)
+            | Refusal::TooLong(place) => place,
+            Refusal::ReadsFull
+            | Refusal::WritesFull
+            | Refusal::SheetTooShort
+            | Refusal::NoSuchRegister
+            | Refusal::StepLimit => 0,
         }
     }
 }

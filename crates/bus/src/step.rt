@@ -37,16 +37,13 @@ impl<'a, 'b, B: Board> Bus for StepBus<'a, 'b, B> {
         if let Some(byte) = self.buffer.get(address) {
             return Ok(byte);
         }
-        let Some(byte) = self.board.fetch(address) else {
-            return Err(Refusal::NoRight(address));
-        };
-        let used = self.used;
+        let byte = self.board.fetch(address).ok_or(Refusal::NoRight(address))?;
         if self.is_listed(address) {
             return Ok(byte);
         }
-        if used < self.reads.len() {
-            self.reads[used] = ReadLine { address, byte };
-            self.used = used + 1;
+        if self.used < self.reads.len() {
+            self.reads[self.used] = ReadLine { address, byte };
+            self.used += 1;
         }
         Ok(byte)
     }

@@ -1,6 +1,5 @@
 // Accepting a step.
 ghost use Rattle.std.specs.Prelude.{◌≡◌, ◌+◌, ◌≤◌, length, if◌then◌else◌, nat_le};
-ghost use Rattle.bus.specs.Buffer.{buffered};
 ghost use Rattle.bus.specs.Commit.{stores, write_lines, has_room, entered};
 
 use super::StoreBuffer;
@@ -11,13 +10,13 @@ use board::Board;
 fn fits(used: usize, more: usize, all: usize) -> bool
     ensures { result ≡ nat_le (used + more) all }
 {
-    used <= all && more <= all - used
+    used.checked_add(more).is_some_and(|end| end <= all)
 }
 
 impl StoreBuffer {
     // How many bytes wait.
     pub fn len(&self) -> usize
-        ensures count { result ≡ length (buffered self.now.base self.now.len self.now.bytes) }
+        ensures count { result ≡ length self.now }
         ensures few { result ≤ 256 }
     {
         self.len
@@ -32,18 +31,17 @@ impl StoreBuffer {
         used: usize,
         step: u32,
     ) -> bool
-        ensures answer { result ≡ has_room used (length (buffered self.now.base self.now.len self.now.bytes)) writes.old }
+        ensures answer { result ≡ has_room used (length self.now) writes.old }
         ensures rights { B.Board.rights board.new ≡ B.Board.rights board.old }
-        ensures bytes { B.Board.bytes board.new ≡ (if result then stores (B.Board.rights board.old) (buffered self.now.base self.now.len self.now.bytes) (B.Board.bytes board.old) else B.Board.bytes board.old) }
-        ensures lines { writes.new ≡ (if result then entered used (write_lines step (buffered self.now.base self.now.len self.now.bytes)) writes.old else writes.old) }
+        ensures bytes { B.Board.bytes board.new ≡ (if result then stores (B.Board.rights board.old) self.now (B.Board.bytes board.old) else B.Board.bytes board.old) }
+        ensures lines { writes.new ≡ (if result then entered used (write_lines step self.now) writes.old else writes.old) }
     {
-        let len = self.len;
-        if !fits(used, len, writes.len()) {
+        if !fits(used, self.len, writes.len()) {
             return false;
         }
-        for i in 0..len {
+        for (i, byte) in self.bytes[..self.len].iter().enumerate() {
+            let byte = *byte;
             let address = self.base.wrapping_add(i as u32);
-            let byte = self.bytes[i];
             let _ = board.store(address, byte);
             writes[used + i] = WriteLine {
                 step,

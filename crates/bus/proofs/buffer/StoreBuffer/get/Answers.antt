@@ -1,9 +1,12 @@
-use Rattle.std.proofs.Common.{rules}
-use Rattle.bus.proofs.Buffers.{get_inside, get_outside}
+use Rattle.std.proofs.Common.{◌≤◌, length, take, ap, ◌∙◌, arith, rules}
+use Rattle.std.proofs.lemmas.List.{length-take-le}
+use Rattle.bus.specs.Buffer.{last_set}
+use Rattle.bus.proofs.Buffers.{looked_up}
 use Rattle.bus.proofs.buffer.StoreBuffer.get.Goals as goal
 
-pub returns-then-i-self : goal.returns-then-i-self
-returns-then-i-self c = get_inside _ _ (search rules) (search rules) _ _ (search rules) (search rules) c.if-i-self.true
-
-pub returns-else-i-self : goal.returns-else-i-self
-returns-else-i-self c = get_outside _ _ (search rules) (search rules) _ _ (search rules) (search rules) c.if-i-self.false
+pub returns : goal.returns
+returns c =
+    let s = c.self.inside in
+    let bs = take s.len s.bytes in
+    let few : length bs ≤ 256 = omega (arith, length-take-le s.len s.bytes (search rules)) in
+    c.copied.ensures ∙ (looked_up s.base c.args.address (search rules) (search rules) bs c.get.result few c.get.ensures.lookup ∙ ap (last_set c.args.address) c.self.view_is)

@@ -1,6 +1,6 @@
-use Rattle.std.proofs.Common.{sym, rules}
-use Rattle.bus.proofs.Commits.{length_buffered}
+use Rattle.std.proofs.Common.{length, sym, ap, ◌∙◌, rules}
+use Rattle.bus.proofs.Buffers.{length_buffered}
 use Rattle.bus.proofs.buffer.StoreBuffer.len.Goals as goal
 
-pub returns : goal.returns
-returns c = let s = c.args.self.now in record { count = sym (length_buffered s.base s.bytes s.len (search rules)); few = search rules }
+pub returns-clause-count : goal.returns-clause-count
+returns-clause-count c = let s = c.self.inside in sym (length_buffered s.base s.len s.bytes (search rules)) ∙ ap length c.self.view_is

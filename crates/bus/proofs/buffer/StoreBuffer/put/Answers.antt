@@ -1,19 +1,39 @@
-use Rattle.std.proofs.Common.{◌≡◌, cond, eqb, sym, arith, rules}
-use Rattle.std.proofs.lemmas.Bool.Decides.{nat_tests}
-use Rattle.bus.proofs.Buffers.{put_joins, one_run_joins}
+use Rattle.std.proofs.Common.{◌≡◌, ◌+◌, ◌<◌, cond, eqb, [], ◌∷◌, ◌++◌, length, set, sym, ap, ◌∙◌, arith, rules}
+use Rattle.std.proofs.lemmas.Bool.{eq-eqb, ne_eqb}
+use Rattle.bus.specs.Buffer.{buffered, joins}
+use Rattle.bus.proofs.Buffers.{one_run_joins, join_room, joined_there}
 use Rattle.bus.proofs.buffer.StoreBuffer.put.Goals as goal
-use Rattle.bus.proofs.buffer.StoreBuffer.put.Goals.{then-len-eq0, else-len-eq0}
+use Rattle.bus.proofs.buffer.StoreBuffer.put.Goals.{then-self-eq0, else-self-eq0}
 
-pub returns-then-not-may_join : goal.returns-then-not-may_join
-returns-then-not-may_join c =
-    let s = c.args.self.now in
-    record { joined = one_run_joins s.base s.len c.args.address c.args.byte s.bytes (search rules) (search rules) (search rules); after = search rules }
+pub returns-then-not-may_join-clause-joined : goal.returns-then-not-may_join-clause-joined
+returns-then-not-may_join-clause-joined c = one_run_joins c.args.self.now c.args.address c.args.byte
 
-pub returns : goal.returns
-returns c =
-    let s = c.args.self.now in
-    let e : c.if-len-eq0.self ≡ cond (eqb s.len 0) c.args.address s.base = elim c.if-len-eq0.branch [ then-len-eq0 w ↦ grind (arith, nat_tests) | else-len-eq0 w ↦ grind (arith, nat_tests) ] in
-    record {
-      joined = λ _. sym c.if-not-may_join.ensures;
-      after = put_joins s.base s.len c.args.address c.args.byte s.bytes (search rules) (search rules) (search rules) (sym c.if-not-may_join.ensures) _ e;
-    }
+pub bounds-self-inside-self-inside : goal.bounds-self-inside-self-inside
+bounds-self-inside-self-inside c =
+    let s = c.self.inside in
+    let a = c.args.address in
+    join_room s.base s.len a s.bytes (search rules) (ap (λ cs. joins cs a) c.self.view_is ∙ sym c.if-not-may_join.ensures)
+
+pub invariant_of-self : goal.invariant_of-self
+invariant_of-self c =
+    let s = c.self.inside in
+    let a = c.args.address in
+    let room = join_room s.base s.len a s.bytes (search rules) (ap (λ cs. joins cs a) c.self.view_is ∙ sym c.if-not-may_join.ensures) in
+    elim c.if-self-eq0.branch [ then-self-eq0 w ↦ omega (arith, room, ap (λ u. u.len) w.self-inside-is) | else-self-eq0 w ↦ omega (arith, room, ap (λ u. u.len) w.self-inside-is) ]
+
+pub returns-clause-after : goal.returns-clause-after
+returns-clause-after c =
+    let s = c.self.inside in
+    let a = c.args.address in
+    let b = c.args.byte in
+    let j = ap (λ cs. joins cs a) c.self.view_is ∙ sym c.if-not-may_join.ensures in
+    let room = join_room s.base s.len a s.bytes (search rules) j in
+    let few : s.len < length s.bytes = search rules in
+    let e : buffered c.if-self-eq0.self-inside.base (c.if-self-eq0.self-inside.len + 1) c.if-self-eq0.self-inside.bytes ≡ buffered (cond (eqb s.len 0) a s.base) (s.len + 1) (set s.bytes s.len b) =
+    elim c.if-self-eq0.branch [
+      | then-self-eq0 w ↦ ap (λ u. buffered u.base (u.len + 1) u.bytes) w.self-inside-is ∙ ap (λ t. buffered (cond t a s.base) (s.len + 1) (set s.bytes s.len b)) (sym (eq-eqb s.len 0 w.if-self-eq0.true))
+      | else-self-eq0 w ↦ ap (λ u. buffered u.base (u.len + 1) u.bytes) w.self-inside-is ∙ ap (λ t. buffered (cond t a s.base) (s.len + 1) (set s.bytes s.len b)) (sym (ne_eqb s.len 0 w.if-self-eq0.false))
+    ]
+    in
+    e ∙ (joined_there s.base s.len a b s.bytes (search rules) (search rules) few j
+    ∙ (ap (λ cs. cs ++ ((a, b) ∷ [])) c.self.view_is ∙ ap (λ t. cond t (c.args.self.now ++ ((a, b) ∷ [])) c.args.self.now) c.if-not-may_join.ensures))
