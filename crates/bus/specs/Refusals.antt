@@ -1,5 +1,6 @@
 -- The number and the place of each refusal.
-use Rattle.std.specs.Prelude.{ℕ}
+use Rattle.std.specs.Prelude.{ℕ, ◌-◌, true, List, ◌++◌, length, replicate, codes}
+use Rattle.std.specs.Fmt.{decimal, digits}
 use Rattle.bus.specs.declared.refusal.Refusal.{Refusal}
 use Rattle.bus.specs.declared.refusal.Refusal.TheVariants.{NoRight, NotServed, ReservedEncoding, ForbiddenMode, BadLengthByte, TooLong, ReadsFull, WritesFull, SheetTooShort, NoSuchRegister, StepLimit}
 
@@ -28,3 +29,11 @@ place_of WritesFull = 0
 place_of SheetTooShort = 0
 place_of NoSuchRegister = 0
 place_of StepLimit = 0
+
+-- a number in capital hexadecimal digits, with zeros before it up to eight (48 is `0`)
+abbrev pub eight_digits : ℕ → List ℕ
+eight_digits n = replicate (8 - length (digits 16 true n)) 48 ++ digits 16 true n
+
+-- what a refusal prints: its number, and its place
+abbrev pub shown : Refusal → List ℕ
+shown r = decimal (number_of r) ++ (codes " at " ++ eight_digits (place_of r))

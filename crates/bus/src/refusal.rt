@@ -1,6 +1,9 @@
 // Why a call was refused.
-ghost use Rattle.std.specs.Prelude.{◌≡◌};
-ghost use Rattle.bus.specs.Refusals.{number_of, place_of};
+ghost use Rattle.std.specs.Prelude.{◌≡◌, Some};
+ghost use Rattle.bus.specs.Refusals.{number_of, place_of, shown};
+
+use std::error::Error;
+use std::fmt;
 
 // The reasons, each with its place where it has one.
 #[derive(Clone, Copy, PartialEq, Eq, Debug)]
@@ -69,3 +72,16 @@ impl Refusal {
         }
     }
 }
+
+// The number and the place, as the programs print them.
+impl fmt::Display for Refusal {
+    ghost output = { λ r. Some (shown r) };
+
+    fn fmt<W: fmt::Write>(&self, f: &mut fmt::Formatter<W>) -> fmt::Result {
+        let number = self.number();
+        let place = self.place();
+        write!(f, "{number} at {place:08X}")
+    }
+}
+
+impl Error for Refusal {}
