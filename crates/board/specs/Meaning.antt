@@ -1,5 +1,5 @@
 -- What a board means: a right and a byte for each address, and what asking, fetching and storing answer by them.
-use Rattle.std.specs.Prelude.{ℕ, ◌-◌, ◌/◌, ◌%◌, ◌^◌, ◌<◌, Bool, true, false, cond, ◌&&◌, List, length, Some, None, Option, ◌==◌, nat_le, nat_lt, slice_index}
+use Rattle.std.specs.Prelude.{ℕ, ◌-◌, ◌/◌, ◌%◌, ◌^◌, ◌<◌, Bool, true, false, cond, ◌&&◌, List, Some, None, Option, ◌==◌, nat_le, nat_lt, slice_index}
 use Rattle.board.specs.declared.Right.{Right}
 use Rattle.board.specs.declared.Right.TheVariants.{NoAccess, ReadOnly, ReadWrite}
 
@@ -41,17 +41,13 @@ place base n a = cond (covers base n a) (Some (a - base)) None
 abbrev pub over : Right → ℕ → ℕ → ℕ → Right
 over r base n a = cond (covers base n a) r NoAccess
 
--- the byte at address a of a board that holds the list bs from base on
-abbrev pub held : ℕ → List ℕ → ℕ → ℕ
-held base bs a = cond (covers base (length bs) a) (slice_index bs (a - base)) 0
+-- the byte at address a of n cells from base on
+abbrev pub held : ℕ → ℕ → (ℕ → ℕ) → ℕ → ℕ
+held base n cells a = cond (covers base n a) (cells (a - base)) 0
 
 -- byte i of 16-bit readings, the low byte of each first
 abbrev pub reading_byte : List ℕ → ℕ → ℕ
 reading_byte readings i = cond (i % 2 == 0) (slice_index readings (i / 2) % 256) (slice_index readings (i / 2) / 256)
-
--- the byte at address a of a sensor page with those readings from base on
-abbrev pub sensed : ℕ → List ℕ → ℕ → ℕ
-sensed base readings a = cond (covers base 32 a) (reading_byte readings (a - base)) 0
 
 -- one meaning below the address at, another from it on
 abbrev pub cut : {X : Type 0} → ℕ → (ℕ → X) → (ℕ → X) → ℕ → X

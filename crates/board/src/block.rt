@@ -1,5 +1,5 @@
 // Several bytes in a row, on any board.
-ghost use Rattle.std.specs.Prelude.{◌≡◌, ℕ, ◌+◌, ◌-◌, ◌*◌, ◌/◌, ◌%◌, ◌^◌, ◌<◌, ◌≤◌, length};
+ghost use Rattle.std.specs.Prelude.{◌≡◌, length};
 ghost use Rattle.board.specs.Block.{above, fetches, copied};
 
 use super::Board;
@@ -8,6 +8,7 @@ use super::Board;
 pub fn read_block<B: Board>(board: &B, from: u32, cells: &mut [Option<u8>])
     ensures { cells.new ≡ fetches (B.Board.rights board.now) (B.Board.bytes board.now) from (length cells.old) }
 {
+    // Why an address beside the cells: there may be more cells than addresses, so that no index is sure to be a u32.
     let mut address = from;
     for cell in cells.iter_mut() {
         *cell = board.fetch(address);

@@ -1,5 +1,5 @@
 // A cut: two boards joined at an address.
-ghost use Rattle.std.specs.Prelude.{◌≡◌, ℕ, ◌+◌, ◌-◌, ◌*◌, ◌/◌, ◌%◌, ◌^◌, ◌<◌, ◌≤◌, nat_lt};
+ghost use Rattle.std.specs.Prelude.{◌≡◌, nat_lt};
 ghost use Rattle.board.specs.declared.Right.{Right};
 ghost use Rattle.board.specs.Meaning.{cut};
 
@@ -7,7 +7,8 @@ use super::map::MemoryMap;
 use super::{Board, Right};
 
 // Below the address `at` the lower board answers, from it on the upper one.
-#[derive(Drop)]
+// Why an `if` in each function: the two boards differ in type, so no one reference stands for the one that answers.
+#[derive(Clone, Copy, PartialEq, Eq, Debug, Drop)]
 pub struct Cut<L, U> {
     at: u32,
     lower: L,

@@ -1,11 +1,11 @@
 // Boards: memory as a processor sees it, by a right and a byte for each of the 2^32 addresses.
 #![tactic(auto)]
 
-ghost use Rattle.std.specs.Prelude.{◌≡◌, ℕ, ◌+◌, ◌-◌, ◌*◌, ◌/◌, ◌%◌, ◌^◌, ◌<◌, ◌≤◌, length, slice_index};
+ghost use Rattle.std.specs.Prelude.{◌≡◌, ℕ};
 ghost use Rattle.board.specs.declared.Right.{Right};
-ghost use Rattle.board.specs.declared.Right.TheVariants.{NoAccess, ReadOnly, ReadWrite};
-ghost use Rattle.board.specs.Meaning.{fetched, stored, writable, ByteSized, place as place_of};
+ghost use Rattle.board.specs.Meaning.{fetched, stored, writable, ByteSized};
 
+mod bank;
 mod block;
 mod cut;
 mod map;
@@ -49,24 +49,4 @@ pub trait Board {
         ensures answer { result ≡ writable (rights self.old address) }
         ensures rights { rights self.new ≡ rights self.old }
         ensures bytes { bytes self.new ≡ stored (rights self.old address) address byte (bytes self.old) };
-}
-
-// The place of an address among the `count` addresses from `base` on, if it is one of them.
-fn place(base: u32, count: usize, address: u32) -> Option<usize>
-    ensures { result ≡ place_of base count address }
-{
-    if address < base {
-        return None;
-    }
-    let i = (address - base) as usize;
-    if i < count { Some(i) } else { None }
-}
-
-// A byte of a slice, known to be below 256.
-fn byte_at(bytes: &[u8], i: usize) -> u8
-    requires { i < length bytes.now }
-    ensures value { result ≡ slice_index bytes.now i }
-    ensures small { result < 256 }
-{
-    bytes[i]
 }

@@ -1,11 +1,10 @@
 // The memory map of a board: where each region of one right ends.
-ghost use Rattle.std.specs.Prelude.{◌≡◌, ℕ, ◌+◌, ◌-◌, ◌*◌, ◌/◌, ◌%◌, ◌^◌, ◌<◌, ◌≤◌, length};
 ghost use Rattle.board.specs.Meaning.{covers};
 ghost use Rattle.board.specs.Region.{RegionEnd};
 
 use super::Board;
 
-const LAST: u32 = 0xffff_ffff;
+const LAST: u32 = u32::MAX;
 
 // A board that can tell its regions without being asked for each address.
 pub trait MemoryMap: Board {
@@ -27,9 +26,5 @@ pub(crate) fn bytes_end(base: u32, count: usize, address: u32) -> u32
     if (address - base) as usize >= count {
         return LAST;
     }
-    if count - 1 < (LAST - base) as usize {
-        base + (count - 1) as u32
-    } else {
-        LAST
-    }
+    base + (count - 1).min((LAST - base) as usize) as u32
 }

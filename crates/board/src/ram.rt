@@ -1,60 +1,37 @@
 // RAM: bytes lent by the caller, read and written.
-ghost use Rattle.std.specs.Prelude.{◌≡◌, ℕ, ◌+◌, ◌-◌, ◌*◌, ◌/◌, ◌%◌, ◌^◌, ◌<◌, ◌≤◌, length};
-ghost use Rattle.board.specs.declared.Right.{Right};
+ghost use Rattle.std.specs.Prelude.{◌≡◌, ℕ, ◌<◌, length, slice_index};
+ghost use Rattle.std.proofs.Common.{rules};
 ghost use Rattle.board.specs.declared.Right.TheVariants.{ReadWrite};
-ghost use Rattle.board.specs.Meaning.{over, held};
 
-use super::map::{MemoryMap, bytes_end};
-use super::{Board, Right, byte_at, place};
+use super::Right;
+use super::bank::{Bank, Cells};
 
 // The caller's bytes, from a base address on.
-#[derive(Drop)]
-pub struct Ram<'a> {
-    base: u32,
-    bytes: &'a mut [u8],
-}
+pub type Ram<'a> = Bank<&'a mut [u8]>;
 
-impl<'a> Ram<'a> {
-    pub fn new(base: u32, bytes: &'a mut [u8]) -> Ram<'a>
-        ensures base { result.base ≡ base }
-        ensures bytes { result.bytes.now ≡ bytes.old }
-    {
-        Ram { base, bytes }
-    }
-}
+impl<'a> Cells for &'a mut [u8] {
+    ghost right = { ReadWrite };
 
-impl<'a> Board for Ram<'a> {
-    ghost rights = { λ s. over ReadWrite s.base (length s.bytes.now) };
+    ghost count = { λ s. length s.now };
 
-    ghost bytes = { λ s. held s.base s.bytes.now };
+    ghost bytes = { λ s. slice_index s.now };
 
-    fn right(&self, address: u32) -> Right {
-        match place(self.base, self.bytes.len(), address) {
-            Some(_) => Right::ReadWrite,
-            None => Right::NoAccess,
-        }
+    ghost some = { Prim.search rules };
+
+    fn right(&self) -> Right {
+        Right::ReadWrite
     }
 
-    fn fetch(&self, address: u32) -> Option<u8> {
-        match place(self.base, self.bytes.len(), address) {
-            Some(i) => Some(byte_at(self.bytes, i)),
-            None => None,
-        }
+    fn count(&self) -> usize {
+        self.len()
     }
 
-    fn store(&mut self, address: u32, byte: u8) -> bool {
-        match place(self.base, self.bytes.len(), address) {
-            Some(i) => {
-                self.bytes[i] = byte;
-                true
-            }
-            None => false,
-        }
+    fn byte(&self, i: usize) -> u8 {
+        self[i]
     }
-}
 
-impl<'a> MemoryMap for Ram<'a> {
-    fn region_end(&self, address: u32) -> u32 {
-        bytes_end(self.base, self.bytes.len(), address)
+    fn put(&mut self, i: usize, byte: u8) -> bool {
+        self[i] = byte;
+        true
     }
 }
