@@ -12,12 +12,11 @@ use number::width::{Size, Width};
 pub fn fetch_number<B: Bus>(bus: &mut B, address: u32, size: Size) -> Result<u64, Refusal>
     ensures { Runs (fetch_number (byte_count size) address) (B.Bus.seen bus.old) result (B.Bus.seen bus.new) }
 {
-    let mut number = 0;
+    let mut bytes = [0; 8];
     for i in 0..size.bytes() {
-        let byte = bus.fetch(address.wrapping_add(i))?;
-        number += (byte as u64) << (8 * i);
+        bytes[i as usize] = bus.fetch(address.wrapping_add(i))?;
     }
-    Ok(number)
+    Ok(u64::from_le_bytes(bytes))
 }
 
 // Asks for the right to store a number at an address.
