@@ -1,7 +1,6 @@
 -- Laws of lines that name addresses.
-use Rattle.std.proofs.Common.{◌≡◌, ℕ, ◌+◌, ◌-◌, ◌<◌, ◌≤◌, min, Bool, true, false, cond, ◌||◌, eqb, List, [], ◌∷◌, ◌++◌, length, get_or, take, drop, sym, refl, ap, ◌∙◌, inl, inr, arith}
-use Rattle.std.proofs.lemmas.Bool.{cases_lt}
-use Rattle.std.proofs.lemmas.List.{take_more, take_all, drop-drop}
+use Rattle.std.proofs.Common.{◌≡◌, ℕ, ◌+◌, ◌-◌, ◌<◌, ◌≤◌, Bool, true, false, cond, ◌||◌, eqb, List, [], ◌∷◌, ◌++◌, length, get_or, take, drop, sym, refl, ap, ◌∙◌, arith}
+use Rattle.std.proofs.lemmas.List.{take_more, drop-drop}
 use Rattle.bus.specs.Sheets.{names, latest}
 
 or_assoc : (x y z : Bool) → (x || (y || z)) ≡ ((x || y) || z)
@@ -23,9 +22,6 @@ names_more at a xs i d h = ap (names at a) (take_more xs i d h) ∙ (names_appen
 pub latest_append : {L X : Type 0} (at : L → ℕ) (has : L → X) (a : ℕ) (d : X) (xs ys : List L) → latest at has a d (xs ++ ys) ≡ latest at has a (latest at has a d xs) ys
 latest_append at has a d [] ys = refl
 latest_append at has a d (x ∷ xs) ys = latest_append at has a (cond (eqb (at x) a) (has x) d) xs ys
-
-pub take_min : {X : Type 0} (n : ℕ) (xs : List X) → take (min n (length xs)) xs ≡ take n xs
-take_min n xs = elim (cases_lt n (length xs)) [ inl h ↦ ap (λ m. take m xs) (omega arith) | inr h ↦ take_all (min n (length xs)) xs (omega arith) ∙ sym (take_all n xs h) ]
 
 pub drop_more_same : {X : Type 0} (m n : ℕ) (xs ys : List X) → m ≤ n → drop m xs ≡ drop m ys → drop n xs ≡ drop n ys
 drop_more_same m n xs ys h e =

@@ -35,6 +35,7 @@ pub enum Refusal {
 
 impl Refusal {
     // The number by which a refusal is known.
+    // Why numbers beside the enum: the machine's rules name its refusals by them.
     pub fn number(self) -> u8
         ensures { result ≡ number_of self }
     {

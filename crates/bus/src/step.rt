@@ -11,6 +11,7 @@ use board::{Board, Right};
 
 // The board and the used lines of the writes sheet are only looked at, the reads sheet gets lines after its used ones,
 // and the bytes that the step sets wait in the store buffer.
+// Why a count beside the sheet, and no Vec: the caller lends the sheet, and the session keeps the count from step to step.
 #[derive(Drop)]
 pub struct StepBus<'a, 'b, B> {
     pub board: &'a B,
@@ -26,7 +27,7 @@ impl<'a, 'b, B: Board> StepBus<'a, 'b, B> {
         ensures { result ≡ (names_in (λ l. l.address) address (take self.now.used self.now.reads.now) || names_in (λ l. l.address) address self.now.writes.now) }
     {
         let used = self.used.min(self.reads.len());
-        names(&self.reads[0..used], address) || names(self.writes, address)
+        names(&self.reads[..used], address) || names(self.writes, address)
     }
 }
 

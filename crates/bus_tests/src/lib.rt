@@ -68,10 +68,7 @@ mod tests {
 
     // The same of an answer that is a refusal.
     fn refused<T: Drop>(answer: Result<T, Refusal>) -> Option<(u8, u32)> {
-        match answer {
-            Ok(_) => None,
-            Err(refusal) => Some(told(refusal)),
-        }
+        answer.err().map(told)
     }
 
     #[test]

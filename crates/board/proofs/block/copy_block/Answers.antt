@@ -1,5 +1,5 @@
 use Rattle.std.proofs.Common.{◌∙◌}
-use Rattle.board.proofs.Copies.{turn_copies, turn_stops, turn_ends}
+use Rattle.board.proofs.Copies.{turn_stops, turn_ends}
 use Rattle.board.proofs.block.copy_block.Goals as goal
 
 pub returns-in_default : goal.returns-in_default
@@ -14,8 +14,3 @@ returns-then-not-store g c =
       rights = c.store.ensures.rights ∙ inv.0;
       copied = turn_stops _ _ _ _ _ _ _ _ _ _ inv.0 c.loop-i-test.true inv.1 c.in-Some.ensures.answer c.if-not-store.ensures.answer c.store.ensures.bytes;
     }
-
-pub loop-i-preserved : goal.loop-i-preserved
-loop-i-preserved g c =
-    let inv = c.loop-i.invariant in
-    (c.store.ensures.rights ∙ inv.0, turn_copies _ _ _ _ _ _ _ _ _ inv.0 inv.1 c.in-Some.ensures.answer c.if-not-store.ensures.answer c.store.ensures.bytes)

@@ -1,5 +1,4 @@
-use Rattle.std.proofs.Common.{arith, rules}
-use Rattle.std.proofs.lemmas.List.{take_all}
+use Rattle.std.proofs.Common.{arith}
 use Rattle.std.proofs.lemmas.Bool.Decides.{nat_tests}
 use Rattle.bus.proofs.Lines.{names_more}
 use Rattle.bus.proofs.line.names.Goals as goal
@@ -8,6 +7,3 @@ pub loop-line-preserved : goal.loop-line-preserved
 loop-line-preserved g c =
     let e = names_more g.L.Line.at c.args.address c.args.lines.now c.loop-line.line-index c.line-item.result (omega arith) in
     grind (arith, nat_tests)
-
-pub returns : goal.returns
-returns g c = search (rules, take_all)
