@@ -1,78 +1,78 @@
 -- The formats of instructions. PC is the address of the first byte.
-use Rattle.std.specs.Prelude.{ℕ, ◌%◌, Bool, cond, Some, None, Ok, Err, Option, Result, ◌==◌, nat_lt}
+use Rattle.std.specs.Prelude.{ℕ, ◌%◌, Bool, true, false, cond, not, Some, None, Ok, Err, Option, Result, ◌==◌, nat_lt}
+use Rattle.std.specs.Option.{ok_or}
 use Rattle.board.specs.Block.{above}
 use Rattle.number.specs.declared.width.Size.{Size}
 use Rattle.number.specs.declared.width.Size.TheVariants.{Halfword}
-use Rattle.number.specs.Sizes.{byte_count}
 use Rattle.number.specs.Words.{bit}
 use Rattle.bus.specs.declared.refusal.Refusal.{Refusal}
 use Rattle.bus.specs.declared.refusal.Refusal.TheVariants.{NotServed, BadLengthByte}
 use Rattle.bus.specs.Buffer.{offset}
 use Rattle.bus.specs.Program.{Program, give, refuse, answer, ◌>>=◌, fetch_byte}
+use Rattle.instruction.specs.declared.operation.Access.{Access}
 use Rattle.instruction.specs.declared.operation.Access.TheVariants.{Address}
 use Rattle.instruction.specs.declared.operation.TwoOperation.{TwoOperation}
 use Rattle.instruction.specs.declared.operation.OneOperation.{OneOperation}
 use Rattle.instruction.specs.declared.operation.StringOperation.{StringOperation}
 use Rattle.instruction.specs.declared.operation.StringOperation.TheVariants.{Movc, Movcf, Movcs}
+use Rattle.instruction.specs.declared.operand.Operand.{Operand}
 use Rattle.instruction.specs.declared.operand.Operand.TheVariants.{Register as register}
 use Rattle.instruction.specs.declared.opcode.Entry.{Entry}
-use Rattle.instruction.specs.declared.opcode.Entry.TheVariants.{Unserved, Two, One, Branch, Bsr, Rsr, Nop, Strings}
+use Rattle.instruction.specs.declared.opcode.Entry.TheVariants.{Two, One, Branch, Bsr, Rsr, Nop, Strings}
 use Rattle.instruction.specs.declared.action.Length.{Length}
 use Rattle.instruction.specs.declared.action.Length.TheVariants.{Literal, Register}
 use Rattle.instruction.specs.declared.action.Action.{Action}
 use Rattle.instruction.specs.declared.action.Action.TheVariants.{Two as two, One as one, Branch as branch, Bsr as bsr, Rsr as rsr, Nop as nop, Strings as strings}
-use Rattle.instruction.specs.declared.format.Decoded.{Decoded}
-use Rattle.instruction.specs.declared.format.StringPart.{StringPart}
+use Rattle.instruction.specs.declared.action.StringOperand.{StringOperand}
+use Rattle.instruction.specs.declared.part.Part.{Part}
 use Rattle.instruction.specs.Operations.{first_access, second_access, one_access}
 use Rattle.instruction.specs.Modes.{register_verdict}
 use Rattle.instruction.specs.Opcodes.{entry}
-use Rattle.instruction.specs.Decode.{displacement, permit, operand_at}
+use Rattle.instruction.specs.Decode.{part, displacement, permit, operand_at}
 
--- an instruction, and the address after it
-abbrev pub decoded : Action → ℕ → Decoded
-decoded a next = record { action = a; next = next }
+-- how the first operand, or with b the second, is accessed, and its size
+abbrev pub access_at : Bool → TwoOperation → Access
+access_at false o = first_access o
+access_at true o = second_access o
 
--- Format I: a register in the second byte, which is judged before the mode byte is fetched, and an operand with bit m
-unfoldable pub register_first : ℕ → TwoOperation → Size → Size → Bool → ℕ → Program Decoded
-register_first pc o s1 s2 m n =
-    permit (above pc 1) (register_verdict (first_access o) s1 n) >>= λ _.
-    operand_at (above pc 2) m s2 (second_access o) >>= λ x.
-    give (decoded (two o s1 s2 (register n) x.operand) x.next)
+abbrev pub size_at : Bool → Size → Size → Size
+size_at false s1 s2 = s1
+size_at true s1 s2 = s2
 
-unfoldable pub register_second : ℕ → TwoOperation → Size → Size → Bool → ℕ → Program Decoded
-register_second pc o s1 s2 m n =
-    permit (above pc 1) (register_verdict (second_access o) s2 n) >>= λ _.
-    operand_at (above pc 2) m s1 (first_access o) >>= λ x.
-    give (decoded (two o s1 s2 x.operand (register n)) x.next)
+-- the instruction of x and y, where x is its first operand, or with b its second
+abbrev pub in_order : Bool → TwoOperation → Size → Size → Operand → Operand → Action
+in_order false o s1 s2 x y = two o s1 s2 x y
+in_order true o s1 s2 x y = two o s1 s2 y x
+
+-- Format I: a register in the second byte, which is judged before the mode byte is fetched, and an operand with bit m; with d the register is the
+-- second operand
+unfoldable pub register_and_mode : ℕ → TwoOperation → Size → Size → Bool → Bool → ℕ → Program (Part Action)
+register_and_mode pc o s1 s2 d m n =
+    permit (above pc 1) (register_verdict (access_at d o) (size_at d s1 s2) n) >>= λ _.
+    operand_at (above pc 2) m (size_at (not d) s1 s2) (access_at (not d) o) >>= λ x.
+    give (part (in_order d o s1 s2 (register n) x.value) x.next)
 
 -- Format II: two operands, with bits m and m'
-unfoldable pub two_modes : ℕ → TwoOperation → Size → Size → Bool → Bool → Program Decoded
+unfoldable pub two_modes : ℕ → TwoOperation → Size → Size → Bool → Bool → Program (Part Action)
 two_modes pc o s1 s2 m m' =
     operand_at (above pc 2) m s1 (first_access o) >>= λ x.
     operand_at x.next m' s2 (second_access o) >>= λ y.
-    give (decoded (two o s1 s2 x.operand y.operand) y.next)
+    give (part (two o s1 s2 x.value y.value) y.next)
 
 -- by the second byte b: bit 7 clear is Format I, where bit 6 is m, bit 5 set makes the register the second operand and the low five bits name it;
 -- bit 7 set is Format II, where bits 6 and 5 are m and m' and the low five bits are 0
-unfoldable pub two_by : ℕ → TwoOperation → Size → Size → ℕ → Program Decoded
+unfoldable pub two_by : ℕ → TwoOperation → Size → Size → ℕ → Program (Part Action)
 two_by pc o s1 s2 b =
     cond (nat_lt b 128)
-    (cond (bit 5 b) (register_second pc o s1 s2 (bit 6 b) (b % 32)) (register_first pc o s1 s2 (bit 6 b) (b % 32)))
+    (register_and_mode pc o s1 s2 (bit 5 b) (bit 6 b) (b % 32))
     (cond (b % 32 == 0) (two_modes pc o s1 s2 (bit 6 b) (bit 5 b)) (refuse (NotServed pc)))
 
-unfoldable pub two_operands : ℕ → TwoOperation → Size → Size → Program Decoded
+unfoldable pub two_operands : ℕ → TwoOperation → Size → Size → Program (Part Action)
 two_operands pc o s1 s2 = fetch_byte (above pc 1) >>= λ b. two_by pc o s1 s2 b
 
 -- Format III
-unfoldable pub one_operand : ℕ → OneOperation → Size → Bool → Program Decoded
-one_operand pc o s m = operand_at (above pc 1) m s (one_access o) >>= λ x. give (decoded (one o s x.operand) x.next)
-
--- Format IV: a displacement
-unfoldable pub branching : ℕ → ℕ → Size → Program Decoded
-branching pc c s = displacement s (above pc 1) >>= λ d. give (decoded (branch c d) (above (above pc 1) (byte_count s)))
-
-unfoldable pub calling : ℕ → Program Decoded
-calling pc = displacement Halfword (above pc 1) >>= λ d. give (decoded (bsr d) (above (above pc 1) (byte_count Halfword)))
+unfoldable pub one_operand : ℕ → OneOperation → Size → Bool → Program (Part Action)
+one_operand pc o s m = operand_at (above pc 1) m s (one_access o) >>= λ x. give (part (one o s x.value) x.next)
 
 -- a length byte b at p: bit 7 clear gives the length, set names a register in the low five bits
 abbrev pub length_of : ℕ → ℕ → Result Length Refusal
@@ -82,37 +82,41 @@ unfoldable pub length_at : ℕ → Program Length
 length_at p = fetch_byte p >>= λ b. answer (length_of p b)
 
 -- a string operand at p, with its length byte after it
-unfoldable pub string_at : ℕ → ℕ → Bool → Size → Program StringPart
+unfoldable pub string_at : ℕ → ℕ → Bool → Size → Program (Part StringOperand)
 string_at pc p m s =
     operand_at p m s Address >>= λ x.
     length_at x.next >>= λ l.
-    give (record { part = record { operand = x.operand; length = l; place = offset pc x.next }; next = above x.next 1 })
+    give (part (record { operand = x.value; length = l; place = offset pc x.next }) (above x.next 1))
 
 -- Format VIIa: the low five bits of the second byte are the subcode, bits 6 and 5 are m and m'
 abbrev pub string_operation : ℕ → Option StringOperation
 string_operation n = cond (n == 8) (Some Movc) (cond (n == 10) (Some Movcf) (cond (n == 12) (Some Movcs) None))
 
-unfoldable pub strings_by : ℕ → Size → ℕ → Option StringOperation → Program Decoded
-strings_by pc s b None = refuse (NotServed pc)
-strings_by pc s b (Some o) =
+unfoldable pub strings_by : ℕ → Size → ℕ → StringOperation → Program (Part Action)
+strings_by pc s b o =
     string_at pc (above pc 2) (bit 6 b) s >>= λ x.
     string_at pc x.next (bit 5 b) s >>= λ y.
-    give (decoded (strings o s x.part y.part) y.next)
+    give (part (strings o s x.value y.value) y.next)
 
-unfoldable pub string_instruction : ℕ → Size → Program Decoded
-string_instruction pc s = fetch_byte (above pc 1) >>= λ b. strings_by pc s b (string_operation (b % 32))
+unfoldable pub string_instruction : ℕ → Size → Program (Part Action)
+string_instruction pc s =
+    fetch_byte (above pc 1) >>= λ b.
+    answer (ok_or (string_operation (b % 32)) (NotServed pc)) >>= λ o.
+    strings_by pc s b o
 
--- the instruction of that opcode
-unfoldable pub by_entry : ℕ → Entry → Program Decoded
-by_entry pc Unserved = refuse (NotServed pc)
+-- the instruction of that opcode; a branch, in Format IV, has a displacement
+unfoldable pub by_entry : ℕ → Entry → Program (Part Action)
 by_entry pc (Two o s1 s2) = two_operands pc o s1 s2
 by_entry pc (One o s m) = one_operand pc o s m
-by_entry pc (Branch c s) = branching pc c s
-by_entry pc Bsr = calling pc
-by_entry pc Rsr = give (decoded rsr (above pc 1))
-by_entry pc Nop = give (decoded nop (above pc 1))
+by_entry pc (Branch c s) = displacement s (above pc 1) >>= λ d. give (part (branch c d.value) d.next)
+by_entry pc Bsr = displacement Halfword (above pc 1) >>= λ d. give (part (bsr d.value) d.next)
+by_entry pc Rsr = give (part rsr (above pc 1))
+by_entry pc Nop = give (part nop (above pc 1))
 by_entry pc (Strings s) = string_instruction pc s
 
 -- the instruction at PC
-unfoldable pub decode : ℕ → Program Decoded
-decode pc = fetch_byte pc >>= λ op. by_entry pc (entry op)
+unfoldable pub decode : ℕ → Program (Part Action)
+decode pc =
+    fetch_byte pc >>= λ op.
+    answer (ok_or (entry op) (NotServed pc)) >>= λ e.
+    by_entry pc e

@@ -1,5 +1,5 @@
 -- Which instructions may be made, by the decoder or a caller.
-use Rattle.std.specs.Prelude.{ℕ, ◌^◌, Bool, true, false, cond, not, ◌&&◌, Some, None, Option, ◌==◌, nat_le, nat_lt}
+use Rattle.std.specs.Prelude.{ℕ, ◌^◌, Bool, true, false, cond, not, ◌&&◌, Ok, Err, Result, is_ok, ◌==◌, nat_le, nat_lt}
 use Rattle.number.specs.declared.width.Size.{Size}
 use Rattle.number.specs.Sizes.{byte_count}
 use Rattle.number.specs.Words.{fits}
@@ -17,8 +17,6 @@ use Rattle.instruction.specs.declared.operand.Address.{Address}
 use Rattle.instruction.specs.declared.operand.Address.TheVariants.{Indirect, Displaced, Deferred}
 use Rattle.instruction.specs.declared.operand.Operand.{Operand}
 use Rattle.instruction.specs.declared.operand.Operand.TheVariants.{Register, Immediate, Memory, Indexed, Double, Increment, Decrement}
-use Rattle.instruction.specs.declared.mode.Verdict.{Verdict}
-use Rattle.instruction.specs.declared.mode.Verdict.TheVariants.{Permitted, Forbidden, Reserved}
 use Rattle.instruction.specs.declared.action.Length.{Length}
 use Rattle.instruction.specs.declared.action.Length.TheVariants.{Literal, Register as InRegister}
 use Rattle.instruction.specs.declared.action.StringOperand.{StringOperand}
@@ -89,15 +87,10 @@ immediate_written Nop = false
 immediate_written (Strings o s x y) = false
 
 -- ---- everything else that no encoding could have given
-abbrev pub is_permitted : Verdict → Bool
-is_permitted Permitted = true
-is_permitted Forbidden = false
-is_permitted Reserved = false
-
 -- an operand of that size that an instruction takes: an immediate has the operand's width
 abbrev pub operand_taken : Access → Size → Operand → Bool
-operand_taken a s (Register n) = is_permitted (register_verdict a s n)
-operand_taken a s (Immediate v) = is_permitted (immediate_verdict a s) && nat_lt v (256 ^ byte_count s)
+operand_taken a s (Register n) = is_ok (register_verdict a s n)
+operand_taken a s (Immediate v) = is_ok (immediate_verdict a s) && nat_lt v (256 ^ byte_count s)
 operand_taken a s (Memory x) = true
 operand_taken a s (Indexed x i) = true
 operand_taken a s (Double b i o) = true
@@ -154,9 +147,9 @@ action_taken (Strings o s x y) n = nat_lt (byte_count s) 4 && (string_taken s n 
 abbrev pub lawful : Action → ℕ → Bool
 lawful a n = registers_named a && (not (immediate_written a) && (action_taken a n && (nat_le 1 n && nat_le n 22)))
 
--- what a caller's attempt is refused with
-abbrev pub objection : Action → ℕ → Option Refusal
-objection a n =
-    cond (not (registers_named a)) (Some NoSuchRegister)
-    (cond (immediate_written a) (Some (ForbiddenMode 0))
-    (cond (action_taken a n && (nat_le 1 n && nat_le n 22)) None (Some (ReservedEncoding 0))))
+-- whether a caller may make it
+abbrev pub admitted : Action → ℕ → Result (Unit {0}) Refusal
+admitted a n =
+    cond (not (registers_named a)) (Err NoSuchRegister)
+    (cond (immediate_written a) (Err (ForbiddenMode 0))
+    (cond (action_taken a n && (nat_le 1 n && nat_le n 22)) (Ok tt) (Err (ReservedEncoding 0))))

@@ -1,13 +1,12 @@
 -- The served opcodes.
-use Rattle.std.specs.Prelude.{ℕ, ◌+◌, ◌/◌, ◌%◌, true, false, cond, List, [], ◌∷◌, ◌++◌, ◌==◌, slice_index_or}
+use Rattle.std.specs.Prelude.{ℕ, ◌+◌, true, false, cond, List, [], ◌∷◌, ◌++◌, Some, None, Option, ◌==◌}
 use Rattle.number.specs.declared.width.Size.{Size}
 use Rattle.number.specs.declared.width.Size.TheVariants.{Byte, Halfword, Word, Doubleword}
-use Rattle.instruction.specs.declared.operation.TwoOperation.{TwoOperation}
 use Rattle.instruction.specs.declared.operation.TwoOperation.TheVariants.{Mov, Movs, Movz, Movea, Add, Addc, Sub, Subc, Cmp, Neg, And, Or, Xor, Not, Shl, Sha, Rot}
 use Rattle.instruction.specs.declared.operation.OneOperation.{OneOperation}
 use Rattle.instruction.specs.declared.operation.OneOperation.TheVariants.{Inc, Dec, Test, Push, Pop, Jmp, Jsr}
 use Rattle.instruction.specs.declared.opcode.Entry.{Entry}
-use Rattle.instruction.specs.declared.opcode.Entry.TheVariants.{Unserved, Two, One, Branch, Bsr, Rsr, Nop, Strings}
+use Rattle.instruction.specs.declared.opcode.Entry.TheVariants.{Two, One, Branch, Bsr, Rsr, Nop, Strings}
 
 -- opcodes of an operation at the three arithmetic widths: base for bytes, 2 more for halfwords, 4 more for words
 abbrev pub widths : ℕ → (Size → Entry) → List (ℕ × Entry)
@@ -49,29 +48,10 @@ served = all_of (
     ∷ [])
 
 -- the entry of an opcode in a list of them
-abbrev pub look_up : ℕ → List (ℕ × Entry) → Entry
-look_up op [] = Unserved
-look_up op (r ∷ rs) = cond (r.0 == op) r.1 (look_up op rs)
+abbrev pub look_up : ℕ → List (ℕ × Entry) → Option Entry
+look_up op [] = None
+look_up op (r ∷ rs) = cond (r.0 == op) (Some r.1) (look_up op rs)
 
--- what an opcode byte stands for
-unfoldable pub entry : ℕ → Entry
+-- what an opcode byte stands for, where it is served
+unfoldable pub entry : ℕ → Option Entry
 entry op = look_up op served
-
--- how the code's table writes an entry: four bytes, the kind, the operation or condition, and two sizes, or a size and the bit m
-abbrev pub size_of : ℕ → Size
-size_of n = slice_index_or (Byte ∷ Halfword ∷ Word ∷ Doubleword ∷ []) n Byte
-
-abbrev pub two_of : ℕ → TwoOperation
-two_of n = slice_index_or (Mov ∷ Movs ∷ Movz ∷ Movea ∷ Add ∷ Addc ∷ Sub ∷ Subc ∷ Cmp ∷ Neg ∷ And ∷ Or ∷ Xor ∷ Not ∷ Shl ∷ Sha ∷ Rot ∷ []) n Mov
-
-abbrev pub one_of : ℕ → OneOperation
-one_of n = slice_index_or (Inc ∷ Dec ∷ Test ∷ Push ∷ Pop ∷ Jmp ∷ Jsr ∷ []) n Inc
-
-abbrev pub kinds : ℕ → ℕ → ℕ → List Entry
-kinds x y z = Unserved ∷ Two (two_of x) (size_of y) (size_of z) ∷ One (one_of x) (size_of y) (z == 1) ∷ Branch x (size_of y) ∷ Bsr ∷ Rsr ∷ Nop ∷ Strings (size_of y) ∷ []
-
-abbrev pub written : ℕ → ℕ → ℕ → ℕ → Entry
-written kind x y z = slice_index_or (kinds x y z) kind Unserved
-
-abbrev pub of_number : ℕ → Entry
-of_number n = written (n / 16777216 % 256) (n / 65536 % 256) (n / 256 % 256) (n % 256)

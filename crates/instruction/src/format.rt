@@ -1,124 +1,109 @@
 // The formats of instructions.
 ghost use Rattle.std.specs.Prelude.{◌≡◌};
 ghost use Rattle.bus.specs.Seen.{Runs};
-ghost use Rattle.instruction.specs.Formats.{register_first, register_second, two_modes, two_by, two_operands as two_operands_is, one_operand as one_operand_is, branching as branching_is, calling as calling_is, length_of as length_is, length_at as length_at_is, string_at as string_at_is, string_operation as string_operation_of, strings_by, string_instruction as string_instruction_is, by_entry as by_entry_is, decode as decode_is};
+ghost use Rattle.instruction.specs.Formats.{access_at, size_at, in_order, register_and_mode, two_modes, two_by, two_operands as two_operands_is, one_operand as one_operand_is, length_of as length_is, length_at as length_at_is, string_at as string_at_is, string_operation as string_operation_of, string_instruction as string_instruction_is, by_entry as by_entry_is, decode as decode_is};
 
 use super::action::{Action, Length, StringOperand};
 use super::mode::register_verdict;
 use super::opcode::{Entry, look_up};
 use super::operand::Operand;
 use super::operation::{Access, OneOperation, StringOperation, TwoOperation};
+use super::part::Part;
 use super::parts::{displacement, operand_at, permit};
 use bus::{Bus, Refusal};
 use number::width::Size;
 
-// An instruction, and the address after it.
-#[derive(Clone, Copy)]
-pub struct Decoded {
-    pub action: Action,
-    pub next: u32,
-}
-
-// A string operand, and the address after it.
-#[derive(Clone, Copy)]
-pub struct StringPart {
-    pub part: StringOperand,
-    pub next: u32,
-}
-
 // The sizes and operation of an instruction of two operands.
-#[derive(Clone, Copy)]
+#[derive(Clone, Copy, PartialEq, Eq, Debug)]
 struct Pair {
     operation: TwoOperation,
     first: Size,
     second: Size,
 }
 
-// Format I with the register as the first operand.
-fn register_first<B: Bus>(
-    bus: &mut B,
-    pc: u32,
-    pair: Pair,
-    m: bool,
-    n: u8,
-) -> Result<Decoded, Refusal>
-    ensures { Runs (register_first pc pair.operation pair.first pair.second m n) (B.Bus.seen bus.old) result (B.Bus.seen bus.new) }
-{
-    let verdict = register_verdict(pair.operation.first_access(), pair.first, n);
-    permit(pc.wrapping_add(1), verdict)?;
-    let access = pair.operation.second_access();
-    let x = operand_at(bus, pc.wrapping_add(2), m, pair.second, access)?;
-    Ok(Decoded {
-        action: Action::Two(
-            pair.operation,
-            pair.first,
-            pair.second,
-            Operand::Register(n),
-            x.operand,
-        ),
-        next: x.next,
-    })
+impl Pair {
+    // How its first operand, or its second, is accessed.
+    fn access(self, second: bool) -> Access
+        ensures { result ≡ access_at second self.operation }
+    {
+        if second {
+            self.operation.second_access()
+        } else {
+            self.operation.first_access()
+        }
+    }
+
+    // The size of its first operand, or of its second.
+    fn size(self, second: bool) -> Size
+        ensures { result ≡ size_at second self.first self.second }
+    {
+        if second { self.second } else { self.first }
+    }
+
+    // The instruction of x and y, where x is its first operand, or its second.
+    fn action(self, second: bool, x: Operand, y: Operand) -> Action
+        ensures { result ≡ in_order second self.operation self.first self.second x y }
+    {
+        let (a, b) = if second { (y, x) } else { (x, y) };
+        Action::Two(self.operation, self.first, self.second, a, b)
+    }
 }
 
-// Format I with the register as the second operand.
-fn register_second<B: Bus>(
+// Format I: a register as the first operand, or where d is set as the second, and a mode for the other.
+fn register_and_mode<B: Bus>(
     bus: &mut B,
     pc: u32,
     pair: Pair,
+    d: bool,
     m: bool,
     n: u8,
-) -> Result<Decoded, Refusal>
-    ensures { Runs (register_second pc pair.operation pair.first pair.second m n) (B.Bus.seen bus.old) result (B.Bus.seen bus.new) }
+) -> Result<Part<Action>, Refusal>
+    ensures { Runs (register_and_mode pc pair.operation pair.first pair.second d m n) (B.Bus.seen bus.old) result (B.Bus.seen bus.new) }
 {
-    let verdict = register_verdict(pair.operation.second_access(), pair.second, n);
+    let verdict = register_verdict(pair.access(d), pair.size(d), n);
     permit(pc.wrapping_add(1), verdict)?;
-    let access = pair.operation.first_access();
-    let x = operand_at(bus, pc.wrapping_add(2), m, pair.first, access)?;
-    Ok(Decoded {
-        action: Action::Two(
-            pair.operation,
-            pair.first,
-            pair.second,
-            x.operand,
-            Operand::Register(n),
-        ),
+    let size = pair.size(!d);
+    let access = pair.access(!d);
+    let x = operand_at(bus, pc.wrapping_add(2), m, size, access)?;
+    Ok(Part {
+        value: pair.action(d, Operand::Register(n), x.value),
         next: x.next,
     })
 }
 
 // Format II.
-fn two_modes<B: Bus>(bus: &mut B, pc: u32, pair: Pair, m: bool, n: bool) -> Result<Decoded, Refusal>
+fn two_modes<B: Bus>(
+    bus: &mut B,
+    pc: u32,
+    pair: Pair,
+    m: bool,
+    n: bool,
+) -> Result<Part<Action>, Refusal>
     ensures { Runs (two_modes pc pair.operation pair.first pair.second m n) (B.Bus.seen bus.old) result (B.Bus.seen bus.new) }
 {
-    let first = pair.operation.first_access();
-    let x = operand_at(bus, pc.wrapping_add(2), m, pair.first, first)?;
-    let second = pair.operation.second_access();
-    let y = operand_at(bus, x.next, n, pair.second, second)?;
-    Ok(Decoded {
-        action: Action::Two(
-            pair.operation,
-            pair.first,
-            pair.second,
-            x.operand,
-            y.operand,
-        ),
+    let x = operand_at(
+        bus,
+        pc.wrapping_add(2),
+        m,
+        pair.first,
+        pair.operation.first_access(),
+    )?;
+    let y = operand_at(bus, x.next, n, pair.second, pair.operation.second_access())?;
+    Ok(Part {
+        value: Action::Two(pair.operation, pair.first, pair.second, x.value, y.value),
         next: y.next,
     })
 }
 
 // Formats I and II, by the second byte.
-fn two_by<B: Bus>(bus: &mut B, pc: u32, pair: Pair, byte: u8) -> Result<Decoded, Refusal>
+fn two_by<B: Bus>(bus: &mut B, pc: u32, pair: Pair, byte: u8) -> Result<Part<Action>, Refusal>
     ensures { Runs (two_by pc pair.operation pair.first pair.second byte) (B.Bus.seen bus.old) result (B.Bus.seen bus.new) }
 {
     let m = byte / 64 % 2 == 1;
     let d = byte / 32 % 2 == 1;
     let n = byte % 32;
     if byte < 128 {
-        if d {
-            register_second(bus, pc, pair, m, n)
-        } else {
-            register_first(bus, pc, pair, m, n)
-        }
+        register_and_mode(bus, pc, pair, d, m, n)
     } else if n == 0 {
         two_modes(bus, pc, pair, m, d)
     } else {
@@ -127,7 +112,7 @@ fn two_by<B: Bus>(bus: &mut B, pc: u32, pair: Pair, byte: u8) -> Result<Decoded,
 }
 
 // An instruction of two operands.
-fn two_operands<B: Bus>(bus: &mut B, pc: u32, pair: Pair) -> Result<Decoded, Refusal>
+fn two_operands<B: Bus>(bus: &mut B, pc: u32, pair: Pair) -> Result<Part<Action>, Refusal>
     ensures { Runs (two_operands_is pc pair.operation pair.first pair.second) (B.Bus.seen bus.old) result (B.Bus.seen bus.new) }
 {
     let byte = bus.fetch(pc.wrapping_add(1))?;
@@ -141,37 +126,13 @@ fn one_operand<B: Bus>(
     operation: OneOperation,
     size: Size,
     m: bool,
-) -> Result<Decoded, Refusal>
+) -> Result<Part<Action>, Refusal>
     ensures { Runs (one_operand_is pc operation size m) (B.Bus.seen bus.old) result (B.Bus.seen bus.new) }
 {
     let x = operand_at(bus, pc.wrapping_add(1), m, size, operation.access())?;
-    Ok(Decoded {
-        action: Action::One(operation, size, x.operand),
+    Ok(Part {
+        value: Action::One(operation, size, x.value),
         next: x.next,
-    })
-}
-
-// Format IV: a branch.
-fn branching<B: Bus>(bus: &mut B, pc: u32, condition: u8, size: Size) -> Result<Decoded, Refusal>
-    ensures { Runs (branching_is pc condition size) (B.Bus.seen bus.old) result (B.Bus.seen bus.new) }
-{
-    let first = pc.wrapping_add(1);
-    let d = displacement(bus, size, first)?;
-    Ok(Decoded {
-        action: Action::Branch(condition, d),
-        next: first.wrapping_add(size.bytes()),
-    })
-}
-
-// Format IV: BSR.
-fn calling<B: Bus>(bus: &mut B, pc: u32) -> Result<Decoded, Refusal>
-    ensures { Runs (calling_is pc) (B.Bus.seen bus.old) result (B.Bus.seen bus.new) }
-{
-    let first = pc.wrapping_add(1);
-    let d = displacement(bus, Size::Halfword, first)?;
-    Ok(Decoded {
-        action: Action::Bsr(d),
-        next: first.wrapping_add(Size::Halfword.bytes()),
     })
 }
 
@@ -203,14 +164,14 @@ fn string_at<B: Bus>(
     at: u32,
     m: bool,
     size: Size,
-) -> Result<StringPart, Refusal>
+) -> Result<Part<StringOperand>, Refusal>
     ensures { Runs (string_at_is pc at m size) (B.Bus.seen bus.old) result (B.Bus.seen bus.new) }
 {
     let x = operand_at(bus, at, m, size, Access::Address)?;
     let length = length_at(bus, x.next)?;
-    Ok(StringPart {
-        part: StringOperand {
-            operand: x.operand,
+    Ok(Part {
+        value: StringOperand {
+            operand: x.value,
             length,
             place: x.next.wrapping_sub(pc),
         },
@@ -231,27 +192,25 @@ fn string_operation(subcode: u8) -> Option<StringOperation>
 }
 
 // Format VIIa.
-fn string_instruction<B: Bus>(bus: &mut B, pc: u32, size: Size) -> Result<Decoded, Refusal>
+fn string_instruction<B: Bus>(bus: &mut B, pc: u32, size: Size) -> Result<Part<Action>, Refusal>
     ensures { Runs (string_instruction_is pc size) (B.Bus.seen bus.old) result (B.Bus.seen bus.new) }
 {
     let byte = bus.fetch(pc.wrapping_add(1))?;
-    let Some(operation) = string_operation(byte % 32) else {
-        return Err(Refusal::NotServed(pc));
-    };
+    let operation = string_operation(byte % 32).ok_or(Refusal::NotServed(pc))?;
     let x = string_at(bus, pc, pc.wrapping_add(2), byte / 64 % 2 == 1, size)?;
     let y = string_at(bus, pc, x.next, byte / 32 % 2 == 1, size)?;
-    Ok(Decoded {
-        action: Action::Strings(operation, size, x.part, y.part),
+    Ok(Part {
+        value: Action::Strings(operation, size, x.value, y.value),
         next: y.next,
     })
 }
 
 // The instruction of that opcode.
-fn by_entry<B: Bus>(bus: &mut B, pc: u32, entry: Entry) -> Result<Decoded, Refusal>
+fn by_entry<B: Bus>(bus: &mut B, pc: u32, entry: Entry) -> Result<Part<Action>, Refusal>
     ensures { Runs (by_entry_is pc entry) (B.Bus.seen bus.old) result (B.Bus.seen bus.new) }
 {
+    let next = pc.wrapping_add(1);
     match entry {
-        Entry::Unserved => Err(Refusal::NotServed(pc)),
         Entry::Two(operation, first, second) => two_operands(
             bus,
             pc,
@@ -262,24 +221,38 @@ fn by_entry<B: Bus>(bus: &mut B, pc: u32, entry: Entry) -> Result<Decoded, Refus
             },
         ),
         Entry::One(operation, size, m) => one_operand(bus, pc, operation, size, m),
-        Entry::Branch(condition, size) => branching(bus, pc, condition, size),
-        Entry::Bsr => calling(bus, pc),
-        Entry::Rsr => Ok(Decoded {
-            action: Action::Rsr,
-            next: pc.wrapping_add(1),
+        // Format IV
+        Entry::Branch(condition, size) => {
+            let d = displacement(bus, size, next)?;
+            Ok(Part {
+                value: Action::Branch(condition, d.value),
+                next: d.next,
+            })
+        }
+        Entry::Bsr => {
+            let d = displacement(bus, Size::Halfword, next)?;
+            Ok(Part {
+                value: Action::Bsr(d.value),
+                next: d.next,
+            })
+        }
+        Entry::Rsr => Ok(Part {
+            value: Action::Rsr,
+            next,
         }),
-        Entry::Nop => Ok(Decoded {
-            action: Action::Nop,
-            next: pc.wrapping_add(1),
+        Entry::Nop => Ok(Part {
+            value: Action::Nop,
+            next,
         }),
         Entry::Strings(size) => string_instruction(bus, pc, size),
     }
 }
 
 // The instruction at PC, and the address after it.
-pub fn decode_at<B: Bus>(bus: &mut B, pc: u32) -> Result<Decoded, Refusal>
+pub fn decode_at<B: Bus>(bus: &mut B, pc: u32) -> Result<Part<Action>, Refusal>
     ensures { Runs (decode_is pc) (B.Bus.seen bus.old) result (B.Bus.seen bus.new) }
 {
     let opcode = bus.fetch(pc)?;
-    by_entry(bus, pc, look_up(opcode))
+    let entry = look_up(opcode).ok_or(Refusal::NotServed(pc))?;
+    by_entry(bus, pc, entry)
 }

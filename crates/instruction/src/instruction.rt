@@ -10,7 +10,7 @@ pub use build::decode;
 
 // An action with the number of bytes of its code. No register is above 31, no immediate is written or a doubleword, R31 is
 // no doubleword, and the length is 1 to 22.
-#[derive(Clone, Copy)]
+#[derive(Clone, Copy, PartialEq, Eq, Debug)]
 pub struct Instruction {
     action: Action,
     length: u32,

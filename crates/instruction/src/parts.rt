@@ -1,27 +1,15 @@
 // The parts of an instruction's code that are operands.
 ghost use Rattle.std.specs.Prelude.{◌≡◌};
 ghost use Rattle.bus.specs.Seen.{Runs};
-ghost use Rattle.instruction.specs.Decode.{sign_extended as sign_extension, displacement as displacement_is, shape_at, judged, indexed_at, double_at, immediate_at, by_mode, operand_at as operand_is};
+ghost use Rattle.instruction.specs.Decode.{sign_extended as sign_extension, displacement as displacement_is, shape_at, judged, shape_of, indexed_at, double_at, immediate_at, by_mode, operand_at as operand_is};
+ghost use Rattle.instruction.specs.Modes.{plain_mode as plain_of};
 
-use super::mode::{Mode, Shape, Verdict, immediate_verdict, mode_of, plain_mode, register_verdict};
+use super::mode::{Misfit, Mode, Shape, immediate_verdict, mode_of, plain_mode, register_verdict};
 use super::operand::{Address, Base, Operand};
 use super::operation::Access;
+use super::part::Part;
 use bus::{Bus, Refusal, fetch_number};
 use number::width::{Arithmetic, Size, Width};
-
-// An address, and where the code goes on after it.
-#[derive(Clone, Copy)]
-pub struct Located {
-    pub address: Address,
-    pub next: u32,
-}
-
-// An operand, and where the code goes on after it.
-#[derive(Clone, Copy)]
-pub struct Part {
-    pub operand: Operand,
-    pub next: u32,
-}
 
 // The low bits of a number of that size, with their sign.
 fn sign_extended(number: u64, size: Size) -> i32
@@ -35,88 +23,92 @@ fn sign_extended(number: u64, size: Size) -> i32
 }
 
 // The displacement at an address.
-pub fn displacement<B: Bus>(bus: &mut B, size: Size, at: u32) -> Result<i32, Refusal>
+pub fn displacement<B: Bus>(bus: &mut B, size: Size, at: u32) -> Result<Part<i32>, Refusal>
     ensures { Runs (displacement_is size at) (B.Bus.seen bus.old) result (B.Bus.seen bus.new) }
 {
     let number = fetch_number(bus, at, size)?;
-    Ok(sign_extended(number, size))
+    Ok(Part {
+        value: sign_extended(number, size),
+        next: at.wrapping_add(size.bytes()),
+    })
 }
 
 // An address of that shape, whose displacement lies at `at`.
-pub fn locate<B: Bus>(bus: &mut B, at: u32, shape: Shape) -> Result<Located, Refusal>
+pub fn locate<B: Bus>(bus: &mut B, at: u32, shape: Shape) -> Result<Part<Address>, Refusal>
     ensures { Runs (shape_at at shape) (B.Bus.seen bus.old) result (B.Bus.seen bus.new) }
 {
     match shape {
-        Shape::Indirect(n) => Ok(Located {
-            address: Address::Indirect(n),
+        Shape::Indirect(n) => Ok(Part {
+            value: Address::Indirect(n),
             next: at,
         }),
         Shape::Displaced(base, size) => {
             let d = displacement(bus, size, at)?;
-            Ok(Located {
-                address: Address::Displaced(base, d),
-                next: at.wrapping_add(size.bytes()),
+            Ok(Part {
+                value: Address::Displaced(base, d.value),
+                next: d.next,
             })
         }
         Shape::Deferred(base, size) => {
             let e = displacement(bus, size, at)?;
-            Ok(Located {
-                address: Address::Deferred(base, e),
-                next: at.wrapping_add(size.bytes()),
+            Ok(Part {
+                value: Address::Deferred(base, e.value),
+                next: e.next,
             })
         }
     }
 }
 
 // What the verdict on the operand at `at` leads to.
-pub fn permit(at: u32, verdict: Verdict) -> Result<(), Refusal>
+pub fn permit(at: u32, verdict: Result<(), Misfit>) -> Result<(), Refusal>
     ensures { result ≡ judged at verdict }
 {
-    match verdict {
-        Verdict::Permitted => Ok(()),
-        Verdict::Reserved => Err(Refusal::ReservedEncoding(at)),
-        Verdict::Forbidden => Err(Refusal::ForbiddenMode(at)),
+    verdict.map_err(|misfit| misfit.at(at))
+}
+
+// The address that may be indexed, by the second byte of an indexed mode.
+fn indexable(byte: u8) -> Option<Shape>
+    ensures { result ≡ shape_of (plain_of byte) }
+{
+    match plain_mode(byte) {
+        Some(Mode::At(shape)) => Some(shape),
+        _ => None,
     }
 }
 
 // An indexed operand at `at` with the index Rx.
-fn indexed<B: Bus>(bus: &mut B, at: u32, x: u8) -> Result<Part, Refusal>
+fn indexed<B: Bus>(bus: &mut B, at: u32, x: u8) -> Result<Part<Operand>, Refusal>
     ensures { Runs (indexed_at at x) (B.Bus.seen bus.old) result (B.Bus.seen bus.new) }
 {
     let byte = bus.fetch(at.wrapping_add(1))?;
-    let Mode::At(shape) = plain_mode(byte) else {
-        return Err(Refusal::ReservedEncoding(at));
-    };
+    let shape = indexable(byte).ok_or(Refusal::ReservedEncoding(at))?;
     let located = locate(bus, at.wrapping_add(2), shape)?;
     Ok(Part {
-        operand: Operand::Indexed(located.address, x),
+        value: Operand::Indexed(located.value, x),
         next: located.next,
     })
 }
 
 // A double displacement at `at`.
-fn double<B: Bus>(bus: &mut B, at: u32, base: Base, size: Size) -> Result<Part, Refusal>
+fn double<B: Bus>(bus: &mut B, at: u32, base: Base, size: Size) -> Result<Part<Operand>, Refusal>
     ensures { Runs (double_at at base size) (B.Bus.seen bus.old) result (B.Bus.seen bus.new) }
 {
-    let count = size.bytes();
-    let first = at.wrapping_add(1);
-    let inner = displacement(bus, size, first)?;
-    let second = first.wrapping_add(count);
-    let outer = displacement(bus, size, second)?;
+    let inner = displacement(bus, size, at.wrapping_add(1))?;
+    let outer = displacement(bus, size, inner.next)?;
     Ok(Part {
-        operand: Operand::Double(base, inner, outer),
-        next: second.wrapping_add(count),
+        value: Operand::Double(base, inner.value, outer.value),
+        next: outer.next,
     })
 }
 
 // An immediate of the operand's size at `at`.
-fn immediate<B: Bus>(bus: &mut B, at: u32, size: Size) -> Result<Part, Refusal>
+fn immediate<B: Bus>(bus: &mut B, at: u32, size: Size) -> Result<Part<Operand>, Refusal>
     ensures { Runs (immediate_at at size) (B.Bus.seen bus.old) result (B.Bus.seen bus.new) }
 {
     let first = at.wrapping_add(1);
     let number = fetch_number(bus, first, size)?;
     Ok(Part {
-        operand: Operand::Immediate((number % 0x1_0000_0000) as u32),
+        value: Operand::Immediate(u32::low(number)),
         next: first.wrapping_add(size.bytes()),
     })
 }
@@ -128,7 +120,7 @@ fn by_mode<B: Bus>(
     size: Size,
     access: Access,
     mode: Mode,
-) -> Result<Part, Refusal>
+) -> Result<Part<Operand>, Refusal>
     ensures { Runs (by_mode at size access mode) (B.Bus.seen bus.old) result (B.Bus.seen bus.new) }
 {
     let next = at.wrapping_add(1);
@@ -136,14 +128,14 @@ fn by_mode<B: Bus>(
         Mode::At(shape) => {
             let located = locate(bus, next, shape)?;
             Ok(Part {
-                operand: Operand::Memory(located.address),
+                value: Operand::Memory(located.value),
                 next: located.next,
             })
         }
         Mode::Quick(value) => {
             permit(at, immediate_verdict(access, size))?;
             Ok(Part {
-                operand: Operand::Immediate(value as u32),
+                value: Operand::Immediate(value as u32),
                 next,
             })
         }
@@ -154,21 +146,20 @@ fn by_mode<B: Bus>(
         Mode::Register(n) => {
             permit(at, register_verdict(access, size, n))?;
             Ok(Part {
-                operand: Operand::Register(n),
+                value: Operand::Register(n),
                 next,
             })
         }
         Mode::Increment(n) => Ok(Part {
-            operand: Operand::Increment(n),
+            value: Operand::Increment(n),
             next,
         }),
         Mode::Decrement(n) => Ok(Part {
-            operand: Operand::Decrement(n),
+            value: Operand::Decrement(n),
             next,
         }),
         Mode::Double(base, width) => double(bus, at, base, width),
         Mode::Index(x) => indexed(bus, at, x),
-        Mode::Reserved => Err(Refusal::ReservedEncoding(at)),
     }
 }
 
@@ -179,9 +170,10 @@ pub fn operand_at<B: Bus>(
     m: bool,
     size: Size,
     access: Access,
-) -> Result<Part, Refusal>
+) -> Result<Part<Operand>, Refusal>
     ensures { Runs (operand_is at m size access) (B.Bus.seen bus.old) result (B.Bus.seen bus.new) }
 {
     let byte = bus.fetch(at)?;
-    by_mode(bus, at, size, access, mode_of(m, byte))
+    let mode = mode_of(m, byte).ok_or(Refusal::ReservedEncoding(at))?;
+    by_mode(bus, at, size, access, mode)
 }

@@ -1,25 +1,23 @@
 // Building instructions from actions, and from the code in memory.
-ghost use Rattle.std.specs.Prelude.{◌≡◌, Some, None, MatchResult};
+ghost use Rattle.std.specs.Prelude.{◌≡◌, Ok, Err, MatchResult};
 ghost use Rattle.bus.specs.Seen.{Runs};
-ghost use Rattle.instruction.specs.Lawful.{objection as objection_to};
+ghost use Rattle.instruction.specs.Lawful.{admitted};
 ghost use Rattle.instruction.specs.Build.{as_decoded};
 ghost use Rattle.instruction.specs.Formats.{decode as decode_is};
 
 use super::Instruction;
 use crate::action::Action;
 use crate::format::decode_at;
-use crate::make::objection;
+use crate::make::admit;
 use bus::{Bus, Refusal};
 
 impl Instruction {
     // The caller's action as an instruction of so many bytes.
     pub fn new(action: Action, length: u32) -> Result<Instruction, Refusal>
-        ensures { MatchResult result (λ i. (objection_to action length ≡ None) × (i.action ≡ action) × (i.length ≡ length)) (λ e. objection_to action length ≡ Some e) }
+        ensures { MatchResult result (λ i. (admitted action length ≡ Ok tt) × (i.action ≡ action) × (i.length ≡ length)) (λ e. admitted action length ≡ Err e) }
     {
-        match objection(action, length) {
-            None => Ok(Instruction { action, length }),
-            Some(refusal) => Err(refusal),
-        }
+        admit(action, length)?;
+        Ok(Instruction { action, length })
     }
 }
 
@@ -29,7 +27,7 @@ pub fn decode<B: Bus>(bus: &mut B, pc: u32) -> Result<Instruction, Refusal>
 {
     let decoded = decode_at(bus, pc)?;
     Ok(Instruction {
-        action: decoded.action,
+        action: decoded.value,
         length: decoded.next.wrapping_sub(pc),
     })
 }

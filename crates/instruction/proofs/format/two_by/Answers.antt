@@ -4,13 +4,9 @@ use Rattle.bus.proofs.Laws.{refuses, if_so, if_not}
 use Rattle.instruction.specs.Formats.{two_by}
 use Rattle.instruction.proofs.format.two_by.Goals as goal
 
-pub returns-then-d : goal.returns-then-d
+pub returns-then-byte-lt128 : goal.returns-then-byte-lt128
 unfolding two_by
-returns-then-d g c = if_so _ (lt-ltb _ _ c.if-byte-lt128.true) (if_so _ (eq-eqb _ _ c.if-d.true) c.register_second.ensures)
-
-pub returns-else-d : goal.returns-else-d
-unfolding two_by
-returns-else-d g c = if_so _ (lt-ltb _ _ c.if-byte-lt128.true) (if_not _ (ne_eqb _ _ c.if-d.false) c.register_first.ensures)
+returns-then-byte-lt128 g c = if_so _ (lt-ltb _ _ c.if-byte-lt128.true) c.register_and_mode.ensures
 
 pub returns-then-n-eq0 : goal.returns-then-n-eq0
 unfolding two_by

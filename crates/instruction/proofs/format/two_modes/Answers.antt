@@ -6,12 +6,12 @@ use Rattle.instruction.proofs.format.two_modes.Goals as goal
 
 pub returns-in_err-x : goal.returns-in_err-x
 unfolding two_modes
-returns-in_err-x g c = hands_on c.from_residual.ensures.1 (ends_at _ (by_case (operand_at _ _ _) (sym c.first_access-first.ensures) c.in_err-x.ensures))
+returns-in_err-x g c = hands_on c.from_residual.ensures.1 (ends_at _ (by_case (operand_at _ _ _) (sym c.first_access.ensures) c.in_err-x.ensures))
 
 pub returns-in_err-y : goal.returns-in_err-y
 unfolding two_modes
-returns-in_err-y g c = hands_on c.from_residual-in_err-y.ensures.1 (goes_on _ (by_case (operand_at _ _ _) (sym c.first_access-first.ensures) c.in_ok-x.ensures) (ends_at _ (by_case (operand_at _ _ _) (sym c.second_access-second.ensures) c.in_err-y.ensures)))
+returns-in_err-y g c = hands_on c.from_residual-in_err-y.ensures.1 (goes_on _ (by_case (operand_at _ _ _) (sym c.first_access.ensures) c.in_ok-x.ensures) (ends_at _ (by_case (operand_at _ _ _) (sym c.second_access.ensures) c.in_err-y.ensures)))
 
 pub returns : goal.returns
 unfolding two_modes
-returns g c = goes_on _ (by_case (operand_at _ _ _) (sym c.first_access-first.ensures) c.in_ok-x.ensures) (goes_on _ (by_case (operand_at _ _ _) (sym c.second_access-second.ensures) c.in_ok-y.ensures) (gives refl))
+returns g c = goes_on _ (by_case (operand_at _ _ _) (sym c.first_access.ensures) c.in_ok-x.ensures) (goes_on _ (by_case (operand_at _ _ _) (sym c.second_access.ensures) c.in_ok-y.ensures) (gives refl))

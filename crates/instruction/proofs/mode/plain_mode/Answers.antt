@@ -1,5 +1,4 @@
-use Rattle.std.proofs.Common.{◌≡◌, ◌/◌, ◌%◌, ◌<◌, get_or, sym, ap, ◌∙◌, arith, rules}
-use Rattle.instruction.specs.declared.mode.Mode.TheVariants.{Reserved}
+use Rattle.std.proofs.Common.{◌≡◌, ◌/◌, ◌%◌, ◌<◌, get_or, None, sym, ap, ◌∙◌, arith, rules}
 use Rattle.instruction.specs.Modes.{plain_modes}
 use Rattle.instruction.proofs.mode.plain_mode.Goals as goal
 
@@ -7,4 +6,4 @@ pub returns-in_default : goal.returns-in_default
 returns-in_default c =
     let h : c.args.byte < 256 = search rules in
     let e : c.args.byte / 32 ≡ 7 = omega arith in
-    c.listed_mode.ensures ∙ sym (ap (λ k. get_or (plain_modes (c.args.byte % 32)) k Reserved) e)
+    c.listed_mode.ensures ∙ sym (ap (λ k. get_or (plain_modes (c.args.byte % 32)) k None) e)

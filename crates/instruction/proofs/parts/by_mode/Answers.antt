@@ -1,5 +1,5 @@
 use Rattle.std.proofs.Common.{refl}
-use Rattle.bus.proofs.Laws.{goes_on, ends_at, gives, refuses, hands_on, by_case}
+use Rattle.bus.proofs.Laws.{goes_on, ends_at, gives, hands_on, by_case}
 use Rattle.instruction.specs.Decode.{by_mode}
 use Rattle.instruction.proofs.Permits.{permits}
 use Rattle.instruction.proofs.parts.by_mode.Goals as goal
@@ -51,7 +51,3 @@ returns-in-Double g c = by_case (by_mode c.args.at c.args.size c.args.access) c.
 pub returns-in-Index : goal.returns-in-Index
 unfolding by_mode
 returns-in-Index g c = by_case (by_mode c.args.at c.args.size c.args.access) c.in-Index.is c.indexed.ensures
-
-pub returns-in-Reserved : goal.returns-in-Reserved
-unfolding by_mode
-returns-in-Reserved g c = by_case (by_mode c.args.at c.args.size c.args.access) c.in-Reserved.is (refuses refl)

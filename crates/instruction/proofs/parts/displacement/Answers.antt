@@ -1,4 +1,4 @@
-use Rattle.std.proofs.Common.{◌≡◌, sym, ◌∙◌, w32, to_z, of_z, rules}
+use Rattle.std.proofs.Common.{◌≡◌, w32, to_z, of_z, rules}
 use Rattle.bus.proofs.Laws.{goes_on, ends_at, gives, hands_on}
 use Rattle.instruction.specs.Decode.{displacement}
 use Rattle.instruction.proofs.parts.displacement.Goals as goal
@@ -11,4 +11,4 @@ pub returns : goal.returns
 unfolding displacement
 returns g c =
     let e : to_z w32 (of_z w32 c.sign_extended.result) ≡ c.sign_extended.result = search rules in
-    goes_on _ c.in_ok-number.ensures (gives (sym (e ∙ c.sign_extended.ensures)))
+    goes_on _ c.in_ok-number.ensures (gives (cc))

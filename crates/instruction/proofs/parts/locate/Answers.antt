@@ -18,11 +18,11 @@ returns-in_err-e-in-Deferred g c = hands_on c.from_residual-in_err-e-in-Deferred
 pub returns-in_ok-d-in-Displaced : goal.returns-in_ok-d-in-Displaced
 unfolding shape_at
 returns-in_ok-d-in-Displaced g c =
-    let e : to_z w32 (of_z w32 c.in_ok-d-in-Displaced.d) ≡ c.in_ok-d-in-Displaced.d = search rules in
+    let e : to_z w32 (of_z w32 c.in_ok-d-in-Displaced.d.value) ≡ c.in_ok-d-in-Displaced.d.value = search rules in
     by_case (shape_at c.args.at) c.in-Displaced.is (goes_on _ c.in_ok-d-in-Displaced.ensures (gives (cc)))
 
 pub returns-in_ok-e-in-Deferred : goal.returns-in_ok-e-in-Deferred
 unfolding shape_at
 returns-in_ok-e-in-Deferred g c =
-    let e : to_z w32 (of_z w32 c.in_ok-e-in-Deferred.e) ≡ c.in_ok-e-in-Deferred.e = search rules in
+    let e : to_z w32 (of_z w32 c.in_ok-e-in-Deferred.e.value) ≡ c.in_ok-e-in-Deferred.e.value = search rules in
     by_case (shape_at c.args.at) c.in-Deferred.is (goes_on _ c.in_ok-e-in-Deferred.ensures (gives (cc)))
