@@ -5,3 +5,4 @@ pub mod Decode
 pub mod Formats
 pub mod Lawful
 pub mod Build
+pub mod Text

@@ -12,6 +12,7 @@ mod operand;
 mod operation;
 mod part;
 mod parts;
+mod text;
 
 pub use action::{Action, Length, StringOperand};
 pub use bound::fetches_at_most_22;
