@@ -1,9 +1,10 @@
 // The registers, the PC and the flags: the working copy of a step.
-ghost use Rattle.std.specs.Prelude.{◌≡◌, ◌+◌};
+ghost use Rattle.std.specs.Prelude.{◌≡◌};
 ghost use Rattle.processor.specs.Registers.{register, with_register, read_register, write_register, gone_on};
 
+use super::sized::low_of;
 use number::flags::Flags;
-use number::width::Size;
+use number::width::{Size, Width};
 
 // What the processor holds. It goes by value: a step works on a copy, which is committed or thrown away.
 #[derive(Clone, Copy)]
@@ -14,48 +15,32 @@ pub struct Cpu {
 }
 
 impl Cpu {
-    // The register of that number; there is none above 31, and it holds 0.
-    fn at(&self, n: usize) -> u32
-        ensures { result ≡ register self.now n }
-    {
-        if n < 32 { self.registers[n] } else { 0 }
-    }
-
-    // The processor once that register holds a value.
-    fn put(self, n: usize, value: u32) -> Cpu
-        ensures { result ≡ with_register self n value }
-    {
-        let mut cpu = self;
-        if n < 32 {
-            cpu.registers[n] = value;
-        }
-        cpu
-    }
-
-    // Register n.
+    // Register n. There is none above 31, and it holds 0.
     pub fn register(&self, n: u8) -> u32
         ensures { result ≡ register self.now n }
     {
-        self.at(n as usize)
+        self.registers.get(usize::from(n)).copied().unwrap_or(0)
     }
 
     // The processor once register n holds a value.
     pub fn with_register(self, n: u8, value: u32) -> Cpu
         ensures { result ≡ with_register self n value }
     {
-        self.put(n as usize, value)
+        let mut cpu = self;
+        if usize::from(n) < cpu.registers.len() {
+            cpu.registers[usize::from(n)] = value;
+        }
+        cpu
     }
 
-    // What register n holds at a size.
+    // What register n holds at a size: of a doubleword the high half is in the register after it.
     pub fn read(&self, size: Size, n: u8) -> u64
         ensures { result ≡ read_register self.now size n }
     {
-        let low = self.register(n) as u64;
+        let low = u64::from(self.register(n));
         match size {
-            Size::Byte => low % 0x100,
-            Size::Halfword => low % 0x1_0000,
-            Size::Word => low,
-            Size::Doubleword => low + ((self.at(n as usize + 1) as u64) << 32),
+            Size::Doubleword => low + (u64::from(self.register(n.saturating_add(1))) << 32),
+            _ => low_of(size, low),
         }
     }
 
@@ -63,15 +48,14 @@ impl Cpu {
     pub fn write(self, size: Size, n: u8, number: u64) -> Cpu
         ensures { result ≡ write_register self size n number }
     {
-        let old = self.register(n);
-        let low = (number % 0x1_0000_0000) as u32;
         match size {
-            Size::Byte => self.with_register(n, old - old % 0x100 + low % 0x100),
-            Size::Halfword => self.with_register(n, old - old % 0x1_0000 + low % 0x1_0000),
-            Size::Word => self.with_register(n, low),
-            Size::Doubleword => {
-                let high = (number / 0x1_0000_0000) as u32;
-                self.put(n as usize, low).put(n as usize + 1, high)
+            Size::Doubleword => self
+                .with_register(n, u32::low(number))
+                .with_register(n.saturating_add(1), (number >> 32) as u32),
+            _ => {
+                let old = u64::from(self.register(n));
+                let upper = old - low_of(size, old);
+                self.with_register(n, u32::low(upper + low_of(size, number)))
             }
         }
     }
@@ -80,9 +64,10 @@ impl Cpu {
     pub fn gone_on(self, flags: Flags, next: u32) -> Cpu
         ensures { result ≡ gone_on self flags next }
     {
-        let mut cpu = self;
-        cpu.flags = flags;
-        cpu.pc = next;
-        cpu
+        Cpu {
+            pc: next,
+            flags,
+            ..self
+        }
     }
 }

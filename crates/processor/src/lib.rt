@@ -4,9 +4,8 @@
 mod cpu;
 mod operand;
 mod operation;
+mod sized;
 
 pub use cpu::Cpu;
-pub use operand::{
-    Found, Location, displaced, locate, location_address, pointer, read_at, write_at,
-};
-pub use operation::{Resulted, moved, of_width, result};
+pub use operand::{Found, Location, displaced, locate, pointer};
+pub use operation::{moved, of_width, result};

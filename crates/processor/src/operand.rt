@@ -1,14 +1,14 @@
 // Where operands lie, what they hold, and putting results there.
 ghost use Rattle.std.specs.Prelude.{◌≡◌, ◌*◌, ◌^◌};
 ghost use Rattle.bus.specs.Seen.{Runs};
-ghost use Rattle.processor.specs.Operands.{base_value, displaced as displaced_is, fetch_pointer, address_of, locate as locate_is, location_address as address_in, read_at as read_is, write_at as write_is};
+ghost use Rattle.processor.specs.Operands.{base_value, displaced as displaced_is, fetch_pointer, address_of, locate as locate_is, location_address, read_at, write_at};
 ghost use Rattle.processor.specs.Registers.{register};
 ghost use Rattle.board.specs.Block.{above};
 
 use super::cpu::Cpu;
 use bus::{Bus, Refusal, ask_bytes, fetch_number, put_number};
 use instruction::{Address, Base, Operand};
-use number::width::Size;
+use number::width::{Size, Width};
 
 // A register, a constant of the instruction, or an address in memory.
 #[derive(Clone, Copy)]
@@ -48,7 +48,7 @@ pub fn pointer<B: Bus>(bus: &mut B, address: u32) -> Result<u32, Refusal>
     ensures { Runs (fetch_pointer address) (B.Bus.seen bus.old) result (B.Bus.seen bus.new) }
 {
     let word = fetch_number(bus, address, Size::Word)?;
-    Ok((word % 0x1_0000_0000) as u32)
+    Ok(u32::low(word))
 }
 
 // The address that an operand names.
@@ -73,96 +73,69 @@ fn indexed(cpu: &Cpu, address: u32, x: u8, count: u32) -> u32
 pub fn locate<B: Bus>(bus: &mut B, cpu: Cpu, count: u32, operand: Operand) -> Result<Found, Refusal>
     ensures { Runs (locate_is cpu count operand) (B.Bus.seen bus.old) result (B.Bus.seen bus.new) }
 {
-    match operand {
-        Operand::Register(n) => Ok(Found {
-            cpu,
-            location: Location::InRegister(n),
-        }),
-        Operand::Immediate(v) => Ok(Found {
-            cpu,
-            location: Location::Constant(v),
-        }),
-        Operand::Memory(address) => {
-            let a = address_of(bus, cpu, address)?;
-            Ok(Found {
-                cpu,
-                location: Location::InMemory(a),
-            })
-        }
+    let mut cpu = cpu;
+    let location = match operand {
+        Operand::Register(n) => Location::InRegister(n),
+        Operand::Immediate(v) => Location::Constant(v),
+        Operand::Memory(address) => Location::InMemory(address_of(bus, cpu, address)?),
         Operand::Indexed(address, x) => {
             let b = address_of(bus, cpu, address)?;
-            Ok(Found {
-                cpu,
-                location: Location::InMemory(indexed(&cpu, b, x, count)),
-            })
+            Location::InMemory(indexed(&cpu, b, x, count))
         }
         Operand::Double(base, inner, outer) => {
             let p = pointer(bus, displaced(base_value(&cpu, base), inner))?;
-            Ok(Found {
-                cpu,
-                location: Location::InMemory(displaced(p, outer)),
-            })
+            Location::InMemory(displaced(p, outer))
         }
         Operand::Increment(n) => {
             let a = cpu.register(n);
-            Ok(Found {
-                cpu: cpu.with_register(n, a.wrapping_add(count)),
-                location: Location::InMemory(a),
-            })
+            cpu = cpu.with_register(n, a.wrapping_add(count));
+            Location::InMemory(a)
         }
         Operand::Decrement(n) => {
             let a = cpu.register(n).wrapping_sub(count);
-            Ok(Found {
-                cpu: cpu.with_register(n, a),
-                location: Location::InMemory(a),
-            })
+            cpu = cpu.with_register(n, a);
+            Location::InMemory(a)
+        }
+    };
+    Ok(Found { cpu, location })
+}
+
+impl Location {
+    // Its address, if it is in memory; else 0.
+    pub fn address(self) -> u32
+        ensures { result ≡ location_address self }
+    {
+        match self {
+            Location::InMemory(a) => a,
+            Location::InRegister(_) | Location::Constant(_) => 0,
         }
     }
 }
 
-// The address of a location in memory.
-pub fn location_address(location: Location) -> u32
-    ensures { result ≡ address_in location }
-{
-    match location {
-        Location::InMemory(a) => a,
-        Location::InRegister(_) | Location::Constant(_) => 0,
+impl Found {
+    // What lies there.
+    pub fn read<B: Bus>(self, bus: &mut B, size: Size) -> Result<u64, Refusal>
+        ensures { Runs (read_at self.cpu size self.location) (B.Bus.seen bus.old) result (B.Bus.seen bus.new) }
+    {
+        match self.location {
+            Location::InRegister(n) => Ok(self.cpu.read(size, n)),
+            Location::Constant(v) => Ok(u64::from(v)),
+            Location::InMemory(a) => fetch_number(bus, a, size),
+        }
     }
-}
 
-// What lies at a location.
-pub fn read_at<B: Bus>(
-    bus: &mut B,
-    cpu: Cpu,
-    size: Size,
-    location: Location,
-) -> Result<u64, Refusal>
-    ensures { Runs (read_is cpu size location) (B.Bus.seen bus.old) result (B.Bus.seen bus.new) }
-{
-    match location {
-        Location::InRegister(n) => Ok(cpu.read(size, n)),
-        Location::Constant(v) => Ok(v as u64),
-        Location::InMemory(a) => fetch_number(bus, a, size),
-    }
-}
-
-// Puts a number there.
-pub fn write_at<B: Bus>(
-    bus: &mut B,
-    cpu: Cpu,
-    size: Size,
-    location: Location,
-    number: u64,
-) -> Result<Cpu, Refusal>
-    ensures { Runs (write_is cpu size location number) (B.Bus.seen bus.old) result (B.Bus.seen bus.new) }
-{
-    match location {
-        Location::InRegister(n) => Ok(cpu.write(size, n, number)),
-        Location::Constant(_) => Ok(cpu),
-        Location::InMemory(a) => {
-            ask_bytes(bus, a, size)?;
-            put_number(bus, a, size, number);
-            Ok(cpu)
+    // Puts a number there: the processor after that.
+    pub fn write<B: Bus>(self, bus: &mut B, size: Size, number: u64) -> Result<Cpu, Refusal>
+        ensures { Runs (write_at self.cpu size self.location number) (B.Bus.seen bus.old) result (B.Bus.seen bus.new) }
+    {
+        match self.location {
+            Location::InRegister(n) => Ok(self.cpu.write(size, n, number)),
+            Location::Constant(_) => Ok(self.cpu),
+            Location::InMemory(a) => {
+                ask_bytes(bus, a, size)?;
+                put_number(bus, a, size, number);
+                Ok(self.cpu)
+            }
         }
     }
 }

@@ -12,13 +12,13 @@ pub returns-in-Immediate : goal.returns-in-Immediate
 unfolding locate
 returns-in-Immediate g c = by_case (locate c.args.cpu c.args.count) c.in-Immediate.is (gives refl)
 
-pub returns-in_err-a-in-Memory : goal.returns-in_err-a-in-Memory
+pub returns-in_err-address_of-in-Memory : goal.returns-in_err-address_of-in-Memory
 unfolding locate
-returns-in_err-a-in-Memory g c = hands_on c.from_residual.ensures.1 (by_case (locate c.args.cpu c.args.count) c.in-Memory.is (ends_at _ c.in_err-a-in-Memory.ensures))
+returns-in_err-address_of-in-Memory g c = hands_on c.from_residual.ensures.1 (by_case (locate c.args.cpu c.args.count) c.in-Memory.is (ends_at _ c.in_err-address_of-in-Memory.ensures))
 
-pub returns-in_ok-a-in-Memory : goal.returns-in_ok-a-in-Memory
+pub returns-in_ok-address_of-in-Memory : goal.returns-in_ok-address_of-in-Memory
 unfolding locate
-returns-in_ok-a-in-Memory g c = by_case (locate c.args.cpu c.args.count) c.in-Memory.is (goes_on _ c.in_ok-a-in-Memory.ensures (gives refl))
+returns-in_ok-address_of-in-Memory g c = by_case (locate c.args.cpu c.args.count) c.in-Memory.is (goes_on _ c.in_ok-address_of-in-Memory.ensures (gives refl))
 
 pub returns-in_err-b-in-Indexed : goal.returns-in_err-b-in-Indexed
 unfolding locate

@@ -1,4 +1,4 @@
-use Rattle.std.proofs.Common.{◌≡◌, ◌%◌, ◌^◌, ◌<◌, mod-eq_of_lt}
+use Rattle.std.proofs.Common.{◌^◌, ◌<◌}
 use Rattle.bus.specs.Wide.{fetch_number}
 use Rattle.bus.proofs.Values.{of_leads, values_number}
 use Rattle.processor.proofs.operand.pointer.Goals as goal
@@ -7,5 +7,4 @@ pub returns : goal.returns
 returns g c =
     let h = c.in_ok-word.ensures in
     let l : c.in_ok-word.word < 2 ^ 32 = of_leads (λ x. x < 256 ^ 4) (fetch_number 4 c.args.address) c.in_ok-word.word (values_number 4 c.args.address) h.leads in
-    let e : c.in_ok-word.word % 2 ^ 32 ≡ c.in_ok-word.word = mod-eq_of_lt l in
-    rw e h
+    rw (c.low.ensures.exact l) h

@@ -1,6 +1,6 @@
 use Rattle.std.proofs.Common.{◌≡◌, ap, ◌∙◌, w64, to_z, of_z, rules}
 use Rattle.number.specs.Words.{signed}
-use Rattle.processor.proofs.operation.signed_of.Goals as goal
+use Rattle.processor.proofs.sized.signed_of.Goals as goal
 
 pub returns-in-Byte : goal.returns-in-Byte
 returns-in-Byte c =
