@@ -1,6 +1,7 @@
 -- Bounds of string instructions: each character is set right behind the one before, and at most 128 of two bytes each.
-use Rattle.std.proofs.Common.{◌≡◌, ℕ, suc, ◌+◌, ◌-◌, ◌*◌, ◌<◌, ◌≤◌, min, true, false, eqb, ltb, sym, refl, ap, ◌∙◌, subst, mul-le-mul_right, add-mul, mul-le-mul, arith}
+use Rattle.std.proofs.Common.{◌≡◌, ℕ, suc, ◌+◌, ◌-◌, ◌*◌, ◌<◌, ◌≤◌, min, Some, None, Option, eqb, ltb, sym, refl, ap, subst, mul-le-mul_right, add-mul, mul-le-mul, arith}
 use Rattle.std.proofs.lemmas.Bool.{ltb-false}
+use Rattle.std.proofs.lemmas.Option.{none-some}
 use Rattle.board.specs.declared.Right.{Right}
 use Rattle.board.specs.Block.{above}
 use Rattle.number.specs.declared.width.Size.{Size}
@@ -16,7 +17,6 @@ use Rattle.instruction.specs.declared.operation.StringOperation.{StringOperation
 use Rattle.instruction.specs.declared.operation.StringOperation.TheVariants.{Movc, Movcf, Movcs}
 use Rattle.instruction.specs.declared.action.StringOperand.{StringOperand}
 use Rattle.processor.specs.declared.cpu.Cpu.{Cpu}
-use Rattle.strings.specs.declared.string.Stopped.{Stopped}
 use Rattle.processor.specs.Registers.{read_register}
 use Rattle.strings.specs.Strings.{length_value, counted, character, put_character, copy_character, copied, filled, stop_step, copied_until, moved, padded, halted, worked}
 
@@ -74,21 +74,17 @@ module _ (rights : ℕ → Right) (k : ℕ) where
         (λ i r u _ l q. within_at rights r _ u _ _ q.1 (fetched i r (λ v. put_character k to i v) _ l q.0 (λ v p g. put i p v l g)))
 
     -- the same up to the character that ends the copy; nothing is set after it
-    abbrev Until : ℕ → ℕ → Filled → Stopped → Type 0
-    Until i r u st = (m ≤ r + i * k) × (st.met ≡ false → u ≡ filling to (0 + i * k))
+    abbrev Until : ℕ → ℕ → Filled → Option ℕ → Type 0
+    Until i r u met = (m ≤ r + i * k) × (met ≡ None → u ≡ filling to (0 + i * k))
 
-    over : {P : Type 0} → true ≡ false → P
-    over h = let z : ◌≡◌ {A = ℕ} 0 1 = cc in absurd (omega arith)
-
-    stop_within : (stop i r : ℕ) (u : Filled) (st : Stopped) → i < n → Until i r u st → Within rights r u (stop_step k from to stop i st) (Until (suc i))
+    stop_within : (stop i r : ℕ) (u : Filled) (met : Option ℕ) → i < n → Until i r u met → Within rights r u (stop_step k from to stop i met) (Until (suc i))
     unfolding stop_step
-    stop_within stop i r u st l q =
-        within_if rights r u st.met _ _ _
-        (λ e. within_give rights r u st _ (omega (arith, q.0), λ f. over (sym e ∙ f)))
-        (λ e. within_at rights r _ u _ _ (q.1 e) (fetched i r _ _ l q.0
+    stop_within stop i r u (Some j) l q = within_give rights r u (Some j) _ (omega (arith, q.0), λ f. absurd (none-some j (sym f)))
+    stop_within stop i r u None l q =
+        within_at rights r _ u _ _ (q.1 refl) (fetched i r _ _ l q.0
         (λ v p g. within_if rights p _ (eqb v stop) _ _ _
-        (λ _. within_give rights p _ _ _ (g, over))
-        (λ _. within_then rights p _ _ _ _ _ (put i p v l g) (λ j w _ h. within_give rights j w _ _ (h.0, λ _. h.1))))))
+        (λ _. within_give rights p _ _ _ (g, λ f. absurd (none-some i (sym f))))
+        (λ _. within_then rights p _ _ _ _ _ (put i p v l g) (λ j w _ h. within_give rights j w _ _ (h.0, λ _. h.1)))))
 
     until_within : (stop : ℕ) → Within rights m unfilled (copied_until k from to stop n) (Until n)
     unfolding copied_until

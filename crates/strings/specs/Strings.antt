@@ -1,5 +1,5 @@
 -- Strings: characters of one or two bytes, from the lower end on.
-use Rattle.std.specs.Prelude.{ℕ, ◌+◌, ◌-◌, ◌*◌, min, Bool, true, false, cond, not, ◌==◌, nat_lt}
+use Rattle.std.specs.Prelude.{ℕ, ◌-◌, ◌*◌, min, Bool, cond, ◌==◌, nat_lt, Option, Some, None, unwrap_or, is_none}
 use Rattle.board.specs.Block.{above}
 use Rattle.number.specs.declared.flags.Flags.{Flags}
 use Rattle.number.specs.declared.width.Size.{Size}
@@ -13,7 +13,6 @@ use Rattle.instruction.specs.declared.action.Length.{Length}
 use Rattle.instruction.specs.declared.action.Length.TheVariants.{Literal, Register}
 use Rattle.instruction.specs.declared.action.StringOperand.{StringOperand}
 use Rattle.processor.specs.declared.cpu.Cpu.{Cpu}
-use Rattle.strings.specs.declared.string.Stopped.{Stopped}
 use Rattle.processor.specs.Registers.{register, with_register, read_register, gone_on}
 use Rattle.processor.specs.Operands.{locate, location_address}
 
@@ -50,17 +49,17 @@ copied k from to n = times n (λ i _. copy_character k from to i) tt
 unfoldable pub filled : ℕ → ℕ → ℕ → ℕ → Program (Unit {0})
 filled k to v n = times n (λ i _. put_character k to i v) tt
 
--- a copy that ends before the first character equal to `stop`: one character more, unless that was met
-unfoldable pub stop_step : ℕ → ℕ → ℕ → ℕ → ℕ → Stopped → Program Stopped
-stop_step k from to stop i st =
-    cond st.met (give st)
-    (fetch_number k (character k from i) >>= λ v.
-    cond (v == stop) (give (record { copied = i; met = true }))
-    (put_character k to i v >>= λ _. give (record { copied = i + 1; met = false })))
+-- a copy that ends before the first character equal to `stop`, and says where that was met: one character more, unless it was
+unfoldable pub stop_step : ℕ → ℕ → ℕ → ℕ → ℕ → Option ℕ → Program (Option ℕ)
+stop_step k from to stop i (Some j) = give (Some j)
+stop_step k from to stop i None =
+    fetch_number k (character k from i) >>= λ v.
+    cond (v == stop) (give (Some i))
+    (put_character k to i v >>= λ _. give None)
 
 -- n characters at the most
-unfoldable pub copied_until : ℕ → ℕ → ℕ → ℕ → ℕ → Program Stopped
-copied_until k from to stop n = times n (stop_step k from to stop) (record { copied = 0; met = false })
+unfoldable pub copied_until : ℕ → ℕ → ℕ → ℕ → ℕ → Program (Option ℕ)
+copied_until k from to stop n = times n (stop_step k from to stop) None
 
 -- the end of a string instruction: R28 names the character after the i-th of the source, R27 the one after the j-th of the destination
 abbrev pub string_done : Cpu → ℕ → ℕ → ℕ → ℕ → ℕ → Flags → ℕ → Cpu
@@ -68,7 +67,7 @@ string_done c k from to i j f next = gone_on (with_register (with_register c 28 
 
 -- the flags with CY so
 abbrev pub with_carry : Flags → Bool → Flags
-with_carry f cy = record { cy = cy; ov = f.ov; s = f.s; z = f.z }
+with_carry f cy = record f { cy = cy }
 
 -- MOVC: n characters copied
 unfoldable pub moved : Cpu → Size → ℕ → ℕ → ℕ → ℕ → Program Cpu
@@ -86,8 +85,8 @@ padded c s from to i n next =
 -- MOVCS: n characters at the most, up to the first that equals the low bits of R26; CY says that none did
 unfoldable pub halted : Cpu → Size → ℕ → ℕ → ℕ → ℕ → Program Cpu
 halted c s from to n next =
-    copied_until (byte_count s) from to (read_register c s 26) n >>= λ st.
-    give (string_done c (byte_count s) from to st.copied st.copied (with_carry c.flags (not st.met)) next)
+    copied_until (byte_count s) from to (read_register c s 26) n >>= λ met.
+    give (string_done c (byte_count s) from to (unwrap_or met n) (unwrap_or met n) (with_carry c.flags (is_none met)) next)
 
 -- the work on m characters at `from` and n at `to`: as many are copied as the shorter string has
 unfoldable pub worked : Cpu → StringOperation → Size → ℕ → ℕ → ℕ → ℕ → ℕ → Program Cpu

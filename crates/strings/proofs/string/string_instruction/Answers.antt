@@ -4,22 +4,22 @@ use Rattle.processor.specs.Operands.{locate, location_address}
 use Rattle.strings.specs.Strings.{worked, string_instruction}
 use Rattle.strings.proofs.string.string_instruction.Goals as goal
 
-pub returns-in_err-m : goal.returns-in_err-m
+pub returns-in_err-source_length : goal.returns-in_err-source_length
 unfolding string_instruction
-returns-in_err-m g c = hands_on c.from_residual.ensures.1 (ends_at _ c.in_err-m.ensures)
+returns-in_err-source_length g c = hands_on c.from_residual.ensures.1 (ends_at _ c.in_err-source_length.ensures)
 
-pub returns-in_err-n : goal.returns-in_err-n
+pub returns-in_err-destination_length : goal.returns-in_err-destination_length
 unfolding string_instruction
-returns-in_err-n g c = hands_on c.from_residual-in_err-n.ensures.1 (goes_on _ c.in_ok-m.ensures (ends_at _ c.in_err-n.ensures))
+returns-in_err-destination_length g c = hands_on c.from_residual-in_err-destination_length.ensures.1 (goes_on _ c.in_ok-source_length.ensures (ends_at _ c.in_err-destination_length.ensures))
 
 pub returns-in_err-p : goal.returns-in_err-p
 unfolding string_instruction
-returns-in_err-p g c = hands_on c.from_residual-in_err-p.ensures.1 (goes_on _ c.in_ok-m.ensures (goes_on _ c.in_ok-n.ensures (ends_at _ (by_case (λ k. locate c.args.cpu k c.args.source.operand) (sym c.bytes.ensures) c.in_err-p.ensures))))
+returns-in_err-p g c = hands_on c.from_residual-in_err-p.ensures.1 (goes_on _ c.in_ok-source_length.ensures (goes_on _ c.in_ok-destination_length.ensures (ends_at _ (by_case (λ k. locate c.args.cpu k c.args.source.operand) (sym c.bytes.ensures) c.in_err-p.ensures))))
 
 pub returns-in_err-q : goal.returns-in_err-q
 unfolding string_instruction
-returns-in_err-q g c = hands_on c.from_residual-in_err-q.ensures.1 (goes_on _ c.in_ok-m.ensures (goes_on _ c.in_ok-n.ensures (goes_on _ (by_case (λ k. locate c.args.cpu k c.args.source.operand) (sym c.bytes.ensures) c.in_ok-p.ensures) (ends_at _ (by_case (λ k. locate c.in_ok-p.p.cpu k c.args.destination.operand) (sym c.bytes-2.ensures) c.in_err-q.ensures)))))
+returns-in_err-q g c = hands_on c.from_residual-in_err-q.ensures.1 (goes_on _ c.in_ok-source_length.ensures (goes_on _ c.in_ok-destination_length.ensures (goes_on _ (by_case (λ k. locate c.args.cpu k c.args.source.operand) (sym c.bytes.ensures) c.in_ok-p.ensures) (ends_at _ (by_case (λ k. locate c.in_ok-p.p.cpu k c.args.destination.operand) (sym c.bytes-2.ensures) c.in_err-q.ensures)))))
 
 pub returns : goal.returns
 unfolding string_instruction
-returns g c = goes_on _ c.in_ok-m.ensures (goes_on _ c.in_ok-n.ensures (goes_on _ (by_case (λ k. locate c.args.cpu k c.args.source.operand) (sym c.bytes.ensures) c.in_ok-p.ensures) (goes_on _ (by_case (λ k. locate c.in_ok-p.p.cpu k c.args.destination.operand) (sym c.bytes-2.ensures) c.in_ok-q.ensures) (by_case (λ a. worked c.in_ok-q.q.cpu c.args.operation c.args.size a (location_address c.in_ok-q.q.location) c.in_ok-m.m c.in_ok-n.n c.args.next) (sym c.location_address-from.ensures) (by_case (λ a. worked c.in_ok-q.q.cpu c.args.operation c.args.size c.location_address-from.result a c.in_ok-m.m c.in_ok-n.n c.args.next) (sym c.location_address-to.ensures) c.worked.ensures)))))
+returns g c = goes_on _ c.in_ok-source_length.ensures (goes_on _ c.in_ok-destination_length.ensures (goes_on _ (by_case (λ k. locate c.args.cpu k c.args.source.operand) (sym c.bytes.ensures) c.in_ok-p.ensures) (goes_on _ (by_case (λ k. locate c.in_ok-p.p.cpu k c.args.destination.operand) (sym c.bytes-2.ensures) c.in_ok-q.ensures) (by_case (λ a. worked c.in_ok-q.q.cpu c.args.operation c.args.size a (location_address c.in_ok-q.q.location) c.in_ok-source_length.source_length c.in_ok-destination_length.destination_length c.args.next) (sym c.address.ensures) (by_case (λ a. worked c.in_ok-q.q.cpu c.args.operation c.args.size c.address.result a c.in_ok-source_length.source_length c.in_ok-destination_length.destination_length c.args.next) (sym c.address-2.ensures) c.worked.ensures)))))
