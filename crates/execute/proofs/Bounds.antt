@@ -29,7 +29,7 @@ use Rattle.processor.specs.declared.operand.Location.{Location}
 use Rattle.processor.specs.declared.operand.Location.TheVariants.{InRegister, Constant, InMemory}
 use Rattle.processor.specs.Operands.{below, address_of, locate, read_at, write_at, location_address}
 use Rattle.execute.specs.Two.{taken, left, two_operands}
-use Rattle.execute.specs.One.{stack, pushed, altering, pushing, popping, jumping, calling, calling_relative, returning}
+use Rattle.execute.specs.One.{stack, pushed, popped, altering, pushing, popping, jumping, calling, calling_relative, returning}
 use Rattle.strings.specs.Strings.{string_instruction}
 use Rattle.execute.specs.Execute.{one_operand, acted}
 use Rattle.execute.specs.Step.{one_step}
@@ -89,6 +89,10 @@ pushed_enough : (c : Cpu) (v : ℕ) → Enough 0 (pushed c v)
 unfolding pushed
 pushed_enough c v = enough_stored 4 (below (stack c) 4) v _ (omega arith)
 
+reads_popped : (c : Cpu) → Reads 4 (popped c)
+unfolding popped
+reads_popped c = reads_end 4 _ _ (reads_number 4 (stack c))
+
 -- ==== instructions
 
 two_enough : (c : Cpu) (o : TwoOperation) (s t : Size) (a b : Operand) (next : ℕ) → Enough 24 (two_operands c o s t a b next)
@@ -116,8 +120,8 @@ one_enough c Push s a next =
     enough_after 4 8 12 _ _ (omega arith) (reads_locate c 4 a) (λ p.
     enough_after 8 0 8 _ _ (omega arith) (reads_at p.cpu Word p.location) (λ x. enough_end 0 _ _ (pushed_enough p.cpu x)))
 one_enough c Pop s a next =
-    enough_after 4 8 12 _ _ (omega arith) (reads_number 4 (stack c)) (λ v.
-    enough_after 4 0 8 _ _ (omega arith) (reads_locate _ 4 a) (λ p. enough_end 0 _ _ (write_enough p.cpu Word p.location v)))
+    enough_after 4 8 12 _ _ (omega arith) (reads_popped c) (λ t.
+    enough_after 4 0 8 _ _ (omega arith) (reads_locate t.0 4 a) (λ p. enough_end 0 _ _ (write_enough p.cpu Word p.location t.1)))
 one_enough c Jmp s a next = enough_reads 12 _ (reads_more 4 12 _ (omega arith) (reads_end 4 _ _ (reads_locate c 1 a)))
 one_enough c Jsr s a next = enough_after 4 0 12 _ _ (omega arith) (reads_locate c 1 a) (λ p. enough_end 0 _ _ (pushed_enough p.cpu next))
 
@@ -136,7 +140,7 @@ acted_enough c (Two o s t a b) next h = enough_more 24 264 _ (omega arith) (two_
 acted_enough c (One o s a) next h = enough_more 12 264 _ (omega arith) (one_enough c o s a next)
 acted_enough c (Branch k d) next h = enough_reads 264 _ (reads_give 264 _)
 acted_enough c (Bsr d) next h = enough_more 0 264 _ (omega arith) (enough_end 0 _ _ (pushed_enough c next))
-acted_enough c Rsr next h = enough_more 4 264 _ (omega arith) (enough_reads 4 _ (reads_end 4 _ _ (reads_number 4 (stack c))))
+acted_enough c Rsr next h = enough_more 4 264 _ (omega arith) (enough_reads 4 _ (reads_end 4 _ _ (reads_popped c)))
 acted_enough c Nop next h = enough_reads 264 _ (reads_give 264 _)
 acted_enough c (Strings o s x y) next h = string_enough c o s x y next h
 

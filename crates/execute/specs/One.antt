@@ -46,6 +46,10 @@ pushed c v =
     put_number 4 (below (stack c) 4) v >>= λ _.
     give (with_register c 31 (below (stack c) 4))
 
+-- the word on top of the stack is fetched, and R31 goes up by 4
+unfoldable pub popped : Cpu → Program (Cpu × ℕ)
+popped c = fetch_pointer (stack c) >>= λ v. give (with_register c 31 (above (stack c) 4), v)
+
 -- INC, DEC, TEST
 unfoldable pub altering : Cpu → OneOperation → Size → Operand → ℕ → Program Cpu
 altering c o s a next =
@@ -65,9 +69,9 @@ pushing c a next =
 -- POP fetches, raises R31 by 4, then finds its destination
 unfoldable pub popping : Cpu → Operand → ℕ → Program Cpu
 popping c a next =
-    fetch_pointer (stack c) >>= λ v.
-    locate (with_register c 31 (above (stack c) 4)) 4 a >>= λ p.
-    write_at p.cpu Word p.location v >>= λ d.
+    popped c >>= λ t.
+    locate t.0 4 a >>= λ p.
+    write_at p.cpu Word p.location t.1 >>= λ d.
     give (gone_on d c.flags next)
 
 -- JMP asks nothing of its target
@@ -87,7 +91,7 @@ calling_relative c d next = pushed c next >>= λ e. give (gone_on e c.flags (dis
 
 -- RSR takes it back
 unfoldable pub returning : Cpu → Program Cpu
-returning c = fetch_pointer (stack c) >>= λ target. give (gone_on (with_register c 31 (above (stack c) 4)) c.flags target)
+returning c = popped c >>= λ t. give (gone_on t.0 c.flags t.1)
 
 -- a branch adds its displacement to its own first byte's address where its condition holds
 abbrev pub branched : Cpu → ℕ → ℤ → ℕ → Cpu

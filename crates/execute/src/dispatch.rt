@@ -25,9 +25,9 @@ fn one_operand<B: Bus>(
     ensures { Runs (one_operand_is cpu operation size operand next) (B.Bus.seen bus.old) result (B.Bus.seen bus.new) }
 {
     match operation {
-        OneOperation::Inc => altering(bus, cpu, OneOperation::Inc, size, operand, next),
-        OneOperation::Dec => altering(bus, cpu, OneOperation::Dec, size, operand, next),
-        OneOperation::Test => altering(bus, cpu, OneOperation::Test, size, operand, next),
+        OneOperation::Inc | OneOperation::Dec | OneOperation::Test => {
+            altering(bus, cpu, operation, size, operand, next)
+        }
         OneOperation::Push => pushing(bus, cpu, operand, next),
         OneOperation::Pop => popping(bus, cpu, operand, next),
         OneOperation::Jmp => jumping(bus, cpu, operand),

@@ -1,7 +1,7 @@
 // Instructions of one operand, the stack, and jumps.
 ghost use Rattle.std.specs.Prelude.{◌≡◌, ◌*◌};
 ghost use Rattle.bus.specs.Seen.{Runs};
-ghost use Rattle.execute.specs.One.{altered as altered_is, one_result as one_result_is, pushed as pushed_is, altering as altering_is, pushing as pushing_is, popping as popping_is, jumping as jumping_is, calling as calling_is, calling_relative as calling_relative_is, returning as returning_is, branched as branched_is};
+ghost use Rattle.execute.specs.One.{altered as altered_is, one_result as one_result_is, pushed as pushed_is, popped as popped_is, altering as altering_is, pushing as pushing_is, popping as popping_is, jumping as jumping_is, calling as calling_is, calling_relative as calling_relative_is, returning as returning_is, branched as branched_is};
 
 use super::two::{left, taken};
 use bus::{Bus, Refusal, ask_bytes, put_number};
@@ -9,9 +9,10 @@ use instruction::{OneOperation, Operand};
 use number::arithmetic::{Computed, add, subtract, test};
 use number::flags::{Flags, holds};
 use number::width::{Arithmetic, Size, Width, one};
-use processor::{
-    Cpu, Resulted, displaced, locate, location_address, moved, of_width, pointer, read_at, write_at,
-};
+use processor::{Cpu, displaced, locate, moved, of_width, pointer};
+
+// The register that points to the top of the stack.
+const STACK: u8 = 31;
 
 // What an instruction of one operand comes to, at the operand's width.
 fn altered<W: Arithmetic>(operation: OneOperation, flags: Flags, x: u64) -> Computed<W>
@@ -28,15 +29,15 @@ fn altered<W: Arithmetic>(operation: OneOperation, flags: Flags, x: u64) -> Comp
 }
 
 // What it comes to at its size.
-fn one_result(operation: OneOperation, size: Size, flags: Flags, x: u64) -> Resulted
-    ensures number { result.number ≡ (one_result_is operation size flags x).number }
+fn one_result(operation: OneOperation, size: Size, flags: Flags, x: u64) -> Computed<u64>
+    ensures number { result.value ≡ (one_result_is operation size flags x).number }
     ensures flags { result.flags ≡ (one_result_is operation size flags x).flags }
 {
     match size {
         Size::Byte => of_width(altered::<u8>(operation, flags, x)),
         Size::Halfword => of_width(altered::<u16>(operation, flags, x)),
         Size::Word => of_width(altered::<u32>(operation, flags, x)),
-        Size::Doubleword => Resulted { number: x, flags },
+        Size::Doubleword => moved(x, flags),
     }
 }
 
@@ -53,10 +54,19 @@ pub(crate) fn branched(cpu: Cpu, condition: u8, displacement: i32, next: u32) ->
 fn pushed<B: Bus>(bus: &mut B, cpu: Cpu, word: u64) -> Result<Cpu, Refusal>
     ensures { Runs (pushed_is cpu word) (B.Bus.seen bus.old) result (B.Bus.seen bus.new) }
 {
-    let top = cpu.register(31).wrapping_sub(4);
+    let top = cpu.register(STACK).wrapping_sub(4);
     ask_bytes(bus, top, Size::Word)?;
     put_number(bus, top, Size::Word, word);
-    Ok(cpu.with_register(31, top))
+    Ok(cpu.with_register(STACK, top))
+}
+
+// The word on top of the stack, and the registers once it is taken off.
+fn popped<B: Bus>(bus: &mut B, cpu: Cpu) -> Result<(Cpu, u32), Refusal>
+    ensures { Runs (popped_is cpu) (B.Bus.seen bus.old) result (B.Bus.seen bus.new) }
+{
+    let top = cpu.register(STACK);
+    let word = pointer(bus, top)?;
+    Ok((cpu.with_register(STACK, top.wrapping_add(4)), word))
 }
 
 // INC, DEC and TEST.
@@ -72,9 +82,9 @@ pub(crate) fn altering<B: Bus>(
 {
     let p = locate(bus, cpu, size.bytes(), operand)?;
     let access = operation.access();
-    let x = taken(bus, p.cpu, size, p.location, access)?;
+    let x = taken(bus, p, size, access)?;
     let r = one_result(operation, size, cpu.flags, x);
-    let d = left(bus, p.cpu, size, p.location, access, r.number)?;
+    let d = left(bus, p, size, access, r.value)?;
     Ok(d.gone_on(r.flags, next))
 }
 
@@ -88,7 +98,7 @@ pub(crate) fn pushing<B: Bus>(
     ensures { Runs (pushing_is cpu operand next) (B.Bus.seen bus.old) result (B.Bus.seen bus.new) }
 {
     let p = locate(bus, cpu, 4, operand)?;
-    let x = read_at(bus, p.cpu, Size::Word, p.location)?;
+    let x = p.read(bus, Size::Word)?;
     let d = pushed(bus, p.cpu, x)?;
     Ok(d.gone_on(cpu.flags, next))
 }
@@ -102,11 +112,9 @@ pub(crate) fn popping<B: Bus>(
 ) -> Result<Cpu, Refusal>
     ensures { Runs (popping_is cpu operand next) (B.Bus.seen bus.old) result (B.Bus.seen bus.new) }
 {
-    let top = cpu.register(31);
-    let v = pointer(bus, top)?;
-    let raised = cpu.with_register(31, top.wrapping_add(4));
+    let (raised, word) = popped(bus, cpu)?;
     let p = locate(bus, raised, 4, operand)?;
-    let d = write_at(bus, p.cpu, Size::Word, p.location, v as u64)?;
+    let d = p.write(bus, Size::Word, u64::from(word))?;
     Ok(d.gone_on(cpu.flags, next))
 }
 
@@ -115,7 +123,7 @@ pub(crate) fn jumping<B: Bus>(bus: &mut B, cpu: Cpu, operand: Operand) -> Result
     ensures { Runs (jumping_is cpu operand) (B.Bus.seen bus.old) result (B.Bus.seen bus.new) }
 {
     let p = locate(bus, cpu, 1, operand)?;
-    Ok(p.cpu.gone_on(cpu.flags, location_address(p.location)))
+    Ok(p.cpu.gone_on(cpu.flags, p.location.address()))
 }
 
 // JSR.
@@ -128,8 +136,8 @@ pub(crate) fn calling<B: Bus>(
     ensures { Runs (calling_is cpu operand next) (B.Bus.seen bus.old) result (B.Bus.seen bus.new) }
 {
     let p = locate(bus, cpu, 1, operand)?;
-    let d = pushed(bus, p.cpu, next as u64)?;
-    Ok(d.gone_on(cpu.flags, location_address(p.location)))
+    let d = pushed(bus, p.cpu, u64::from(next))?;
+    Ok(d.gone_on(cpu.flags, p.location.address()))
 }
 
 // BSR.
@@ -142,7 +150,7 @@ pub(crate) fn calling_relative<B: Bus>(
     ensures { Runs (calling_relative_is cpu displacement next) (B.Bus.seen bus.old) result (B.Bus.seen bus.new) }
 {
     let target = displaced(cpu.pc, displacement);
-    let e = pushed(bus, cpu, next as u64)?;
+    let e = pushed(bus, cpu, u64::from(next))?;
     Ok(e.gone_on(cpu.flags, target))
 }
 
@@ -150,8 +158,6 @@ pub(crate) fn calling_relative<B: Bus>(
 pub(crate) fn returning<B: Bus>(bus: &mut B, cpu: Cpu) -> Result<Cpu, Refusal>
     ensures { Runs (returning_is cpu) (B.Bus.seen bus.old) result (B.Bus.seen bus.new) }
 {
-    let top = cpu.register(31);
-    let target = pointer(bus, top)?;
-    let raised = cpu.with_register(31, top.wrapping_add(4));
+    let (raised, target) = popped(bus, cpu)?;
     Ok(raised.gone_on(cpu.flags, target))
 }

@@ -6,42 +6,37 @@ ghost use Rattle.execute.specs.Two.{taken as taken_is, left as left_is, two_oper
 use bus::{Bus, Refusal};
 use instruction::{Access, Operand, TwoOperation};
 use number::width::Size;
-use processor::{Cpu, Location, locate, location_address, read_at, result, write_at};
+use processor::{Cpu, Found, locate, result};
 
 // What an instruction takes of an operand, by its access.
 pub(crate) fn taken<B: Bus>(
     bus: &mut B,
-    cpu: Cpu,
+    operand: Found,
     size: Size,
-    location: Location,
     access: Access,
 ) -> Result<u64, Refusal>
-    ensures { Runs (taken_is cpu size location access) (B.Bus.seen bus.old) result (B.Bus.seen bus.new) }
+    ensures { Runs (taken_is operand.cpu size operand.location access) (B.Bus.seen bus.old) result (B.Bus.seen bus.new) }
 {
     match access {
-        Access::Read => read_at(bus, cpu, size, location),
-        Access::Modify => read_at(bus, cpu, size, location),
+        Access::Read | Access::Modify => operand.read(bus, size),
         Access::Write => Ok(0),
-        Access::Address => Ok(location_address(location) as u64),
+        Access::Address => Ok(u64::from(operand.location.address())),
     }
 }
 
 // A result put where the access writes.
 pub(crate) fn left<B: Bus>(
     bus: &mut B,
-    cpu: Cpu,
+    operand: Found,
     size: Size,
-    location: Location,
     access: Access,
     number: u64,
 ) -> Result<Cpu, Refusal>
-    ensures { Runs (left_is cpu size location access number) (B.Bus.seen bus.old) result (B.Bus.seen bus.new) }
+    ensures { Runs (left_is operand.cpu size operand.location access number) (B.Bus.seen bus.old) result (B.Bus.seen bus.new) }
 {
     match access {
-        Access::Modify => write_at(bus, cpu, size, location, number),
-        Access::Write => write_at(bus, cpu, size, location, number),
-        Access::Read => Ok(cpu),
-        Access::Address => Ok(cpu),
+        Access::Modify | Access::Write => operand.write(bus, size, number),
+        Access::Read | Access::Address => Ok(operand.cpu),
     }
 }
 
@@ -60,11 +55,11 @@ pub(crate) fn two_operands<B: Bus>(
     ensures { Runs (two_is cpu operation s t a b next) (B.Bus.seen bus.old) result (B.Bus.seen bus.new) }
 {
     let p = locate(bus, cpu, s.bytes(), a)?;
-    let x = taken(bus, p.cpu, s, p.location, operation.first_access())?;
+    let x = taken(bus, p, s, operation.first_access())?;
     let q = locate(bus, p.cpu, t.bytes(), b)?;
     let access = operation.second_access();
-    let y = taken(bus, q.cpu, t, q.location, access)?;
+    let y = taken(bus, q, t, access)?;
     let r = result(operation, s, t, cpu.flags, x, y);
-    let d = left(bus, q.cpu, t, q.location, access, r.number)?;
+    let d = left(bus, q, t, access, r.value)?;
     Ok(d.gone_on(r.flags, next))
 }

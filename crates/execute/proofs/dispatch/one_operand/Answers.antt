@@ -1,18 +1,19 @@
+use Rattle.std.proofs.Common.{sym, inl, inr}
+use Rattle.instruction.specs.declared.operation.OneOperation.{OneOperation}
+use Rattle.execute.specs.One.{altering}
 use Rattle.bus.proofs.Laws.{by_case}
 use Rattle.execute.specs.Execute.{one_operand}
 use Rattle.execute.proofs.dispatch.one_operand.Goals as goal
 
 pub returns-in-Inc : goal.returns-in-Inc
 unfolding one_operand
-returns-in-Inc g c = by_case (λ o. one_operand c.args.cpu o c.args.size c.args.operand c.args.next) c.in-Inc.is c.altering.ensures
-
-pub returns-in-Dec : goal.returns-in-Dec
-unfolding one_operand
-returns-in-Dec g c = by_case (λ o. one_operand c.args.cpu o c.args.size c.args.operand c.args.next) c.in-Dec.is c.altering-in-Dec.ensures
-
-pub returns-in-Test : goal.returns-in-Test
-unfolding one_operand
-returns-in-Test g c = by_case (λ o. one_operand c.args.cpu o c.args.size c.args.operand c.args.next) c.in-Test.is c.altering-in-Test.ensures
+returns-in-Inc g c =
+    let one = λ (o : OneOperation). one_operand c.args.cpu o c.args.size c.args.operand c.args.next in
+    elim c.in-Inc.is [
+      | inl e ↦ by_case one e (by_case (λ o. altering c.args.cpu o c.args.size c.args.operand c.args.next) (sym e) c.altering.ensures)
+      | inr (inl e) ↦ by_case one e (by_case (λ o. altering c.args.cpu o c.args.size c.args.operand c.args.next) (sym e) c.altering.ensures)
+      | inr (inr e) ↦ by_case one e (by_case (λ o. altering c.args.cpu o c.args.size c.args.operand c.args.next) (sym e) c.altering.ensures)
+    ]
 
 pub returns-in-Push : goal.returns-in-Push
 unfolding one_operand

@@ -10,4 +10,4 @@ returns-in_err-p g c = hands_on c.from_residual.ensures.1 (ends_at _ c.in_err-p.
 
 pub returns : goal.returns
 unfolding jumping
-returns g c = goes_on _ c.in_ok-p.ensures (gives (sym (c.gone_on.ensures ∙ ap (gone_on c.in_ok-p.p.cpu c.args.cpu.flags) c.location_address.ensures)))
+returns g c = goes_on _ c.in_ok-p.ensures (gives (sym (c.gone_on.ensures ∙ ap (gone_on c.in_ok-p.p.cpu c.args.cpu.flags) c.address.ensures)))
