@@ -1,43 +1,30 @@
 // Instructions of one operand, the stack, and jumps.
 ghost use Rattle.std.specs.Prelude.{◌≡◌, ◌*◌};
 ghost use Rattle.bus.specs.Seen.{Runs};
-ghost use Rattle.execute.specs.One.{altered as altered_is, one_result as one_result_is, pushed as pushed_is, popped as popped_is, altering as altering_is, pushing as pushing_is, popping as popping_is, jumping as jumping_is, calling as calling_is, calling_relative as calling_relative_is, returning as returning_is, branched as branched_is};
+ghost use Rattle.execute.specs.One.{one_result as one_result_is, pushed as pushed_is, popped as popped_is, altering as altering_is, pushing as pushing_is, popping as popping_is, jumping as jumping_is, calling as calling_is, calling_relative as calling_relative_is, returning as returning_is, branched as branched_is};
 
 use super::two::{left, taken};
 use bus::{Bus, Refusal, ask_bytes, put_number};
-use instruction::{OneOperation, Operand};
-use number::arithmetic::{Computed, add, subtract, test};
+use instruction::{OneOperation, Operand, TwoOperation};
+use number::arithmetic::Computed;
 use number::flags::{Flags, holds};
-use number::width::{Arithmetic, Size, Width, one};
-use processor::{Cpu, displaced, locate, moved, of_width, pointer};
+use number::width::Size;
+use processor::{Cpu, displaced, locate, moved, pointer, result};
 
 // The register that points to the top of the stack.
 const STACK: u8 = 31;
 
-// What an instruction of one operand comes to, at the operand's width.
-fn altered<W: Arithmetic>(operation: OneOperation, flags: Flags, x: u64) -> Computed<W>
-    ensures number { W.Width.value result.value ≡ (altered_is operation (8 * W.Width.size) flags x).number }
-    ensures flags { result.flags ≡ (altered_is operation (8 * W.Width.size) flags x).flags }
-{
-    let dst: W = W::low(x);
-    match operation {
-        OneOperation::Inc => add(dst, one(), false),
-        OneOperation::Dec => subtract(dst, one(), false),
-        OneOperation::Test => test(dst),
-        _ => moved(dst, flags),
-    }
-}
-
-// What it comes to at its size.
+// What an instruction of one operand comes to: INC adds 1, DEC subtracts 1, and TEST compares with 0. A doubleword stays.
 fn one_result(operation: OneOperation, size: Size, flags: Flags, x: u64) -> Computed<u64>
     ensures number { result.value ≡ (one_result_is operation size flags x).number }
     ensures flags { result.flags ≡ (one_result_is operation size flags x).flags }
 {
-    match size {
-        Size::Byte => of_width(altered::<u8>(operation, flags, x)),
-        Size::Halfword => of_width(altered::<u16>(operation, flags, x)),
-        Size::Word => of_width(altered::<u32>(operation, flags, x)),
-        Size::Doubleword => moved(x, flags),
+    match (operation, size) {
+        (_, Size::Doubleword) => moved(x, flags),
+        (OneOperation::Inc, _) => result(TwoOperation::Add, size, size, flags, 1, x),
+        (OneOperation::Dec, _) => result(TwoOperation::Sub, size, size, flags, 1, x),
+        (OneOperation::Test, _) => result(TwoOperation::Cmp, size, size, flags, 0, x),
+        _ => result(TwoOperation::Mov, size, size, flags, x, x),
     }
 }
 
