@@ -6,10 +6,9 @@ ghost use Rattle.execute.specs.Execute.{one_operand as one_operand_is, acted as 
 use super::one::{
     altering, branched, calling, calling_relative, jumping, popping, pushing, returning,
 };
-use super::two::two_operands;
+use super::two::{SizedOperand, two_operands};
 use bus::{Bus, Refusal};
-use instruction::{Action, Instruction, OneOperation, Operand};
-use number::width::Size;
+use instruction::{Action, Instruction, OneOperation};
 use processor::Cpu;
 use strings::string_instruction;
 
@@ -18,20 +17,19 @@ fn one_operand<B: Bus>(
     bus: &mut B,
     cpu: Cpu,
     operation: OneOperation,
-    size: Size,
-    operand: Operand,
+    operand: SizedOperand,
     next: u32,
 ) -> Result<Cpu, Refusal>
-    ensures { Runs (one_operand_is cpu operation size operand next) (B.Bus.seen bus.old) result (B.Bus.seen bus.new) }
+    ensures { Runs (one_operand_is cpu operation operand.size operand.operand next) (B.Bus.seen bus.old) result (B.Bus.seen bus.new) }
 {
     match operation {
         OneOperation::Inc | OneOperation::Dec | OneOperation::Test => {
-            altering(bus, cpu, operation, size, operand, next)
+            altering(bus, cpu, operation, operand, next)
         }
-        OneOperation::Push => pushing(bus, cpu, operand, next),
-        OneOperation::Pop => popping(bus, cpu, operand, next),
-        OneOperation::Jmp => jumping(bus, cpu, operand),
-        OneOperation::Jsr => calling(bus, cpu, operand, next),
+        OneOperation::Push => pushing(bus, cpu, operand.operand, next),
+        OneOperation::Pop => popping(bus, cpu, operand.operand, next),
+        OneOperation::Jmp => jumping(bus, cpu, operand.operand),
+        OneOperation::Jsr => calling(bus, cpu, operand.operand, next),
     }
 }
 
@@ -40,8 +38,20 @@ fn acted<B: Bus>(bus: &mut B, cpu: Cpu, action: Action, next: u32) -> Result<Cpu
     ensures { Runs (acted_is cpu action next) (B.Bus.seen bus.old) result (B.Bus.seen bus.new) }
 {
     match action {
-        Action::Two(o, s, t, a, b) => two_operands(bus, cpu, o, s, t, a, b, next),
-        Action::One(o, s, a) => one_operand(bus, cpu, o, s, a, next),
+        Action::Two(operation, s, t, a, b) => {
+            let source = SizedOperand {
+                size: s,
+                operand: a,
+            };
+            let destination = SizedOperand {
+                size: t,
+                operand: b,
+            };
+            two_operands(bus, cpu, operation, source, destination, next)
+        }
+        Action::One(operation, size, operand) => {
+            one_operand(bus, cpu, operation, SizedOperand { size, operand }, next)
+        }
         Action::Branch(k, d) => Ok(branched(cpu, k, d, next)),
         Action::Bsr(d) => calling_relative(bus, cpu, d, next),
         Action::Rsr => returning(bus, cpu),

@@ -3,7 +3,7 @@ ghost use Rattle.std.specs.Prelude.{◌≡◌, ◌*◌};
 ghost use Rattle.bus.specs.Seen.{Runs};
 ghost use Rattle.execute.specs.One.{one_result as one_result_is, pushed as pushed_is, popped as popped_is, altering as altering_is, pushing as pushing_is, popping as popping_is, jumping as jumping_is, calling as calling_is, calling_relative as calling_relative_is, returning as returning_is, branched as branched_is};
 
-use super::two::{left, taken};
+use super::two::{SizedOperand, left, taken};
 use bus::{Bus, Refusal, ask_bytes, put_number};
 use instruction::{OneOperation, Operand, TwoOperation};
 use number::arithmetic::Computed;
@@ -61,18 +61,17 @@ pub(crate) fn altering<B: Bus>(
     bus: &mut B,
     cpu: Cpu,
     operation: OneOperation,
-    size: Size,
-    operand: Operand,
+    operand: SizedOperand,
     next: u32,
 ) -> Result<Cpu, Refusal>
-    ensures { Runs (altering_is cpu operation size operand next) (B.Bus.seen bus.old) result (B.Bus.seen bus.new) }
+    ensures { Runs (altering_is cpu operation operand.size operand.operand next) (B.Bus.seen bus.old) result (B.Bus.seen bus.new) }
 {
-    let p = locate(bus, cpu, size.bytes(), operand)?;
+    let found = operand.locate(bus, cpu)?;
     let access = operation.access();
-    let x = taken(bus, p, size, access)?;
-    let r = one_result(operation, size, cpu.flags, x);
-    let d = left(bus, p, size, access, r.value)?;
-    Ok(d.gone_on(r.flags, next))
+    let number = taken(bus, found, operand.size, access)?;
+    let outcome = one_result(operation, operand.size, cpu.flags, number);
+    let done = left(bus, found, operand.size, access, outcome.value)?;
+    Ok(done.gone_on(outcome.flags, next))
 }
 
 // PUSH.

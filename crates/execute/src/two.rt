@@ -1,12 +1,30 @@
 // Instructions of two operands.
 ghost use Rattle.std.specs.Prelude.{◌≡◌};
+ghost use Rattle.number.specs.Sizes.{byte_count};
 ghost use Rattle.bus.specs.Seen.{Runs};
+ghost use Rattle.processor.specs.Operands.{locate as locate_is};
 ghost use Rattle.execute.specs.Two.{taken as taken_is, left as left_is, two_operands as two_is};
 
 use bus::{Bus, Refusal};
 use instruction::{Access, Operand, TwoOperation};
 use number::width::Size;
 use processor::{Cpu, Found, locate, result};
+
+// An operand with its size.
+#[derive(Clone, Copy)]
+pub(crate) struct SizedOperand {
+    pub size: Size,
+    pub operand: Operand,
+}
+
+impl SizedOperand {
+    // Where it lies, and the registers that finding it changes.
+    pub(crate) fn locate<B: Bus>(self, bus: &mut B, cpu: Cpu) -> Result<Found, Refusal>
+        ensures { Runs (locate_is cpu (byte_count self.size) self.operand) (B.Bus.seen bus.old) result (B.Bus.seen bus.new) }
+    {
+        locate(bus, cpu, self.size.bytes(), self.operand)
+    }
+}
 
 // What an instruction takes of an operand, by its access.
 pub(crate) fn taken<B: Bus>(
@@ -40,26 +58,31 @@ pub(crate) fn left<B: Bus>(
     }
 }
 
-// An instruction of two operands, before the address `next`: the first operand's location, changes and value, then the
-// second's, then the result.
+// An instruction of two operands, before the address `next`: the source's location, changes and value, then the
+// destination's, then the result.
 pub(crate) fn two_operands<B: Bus>(
     bus: &mut B,
     cpu: Cpu,
     operation: TwoOperation,
-    s: Size,
-    t: Size,
-    a: Operand,
-    b: Operand,
+    source: SizedOperand,
+    destination: SizedOperand,
     next: u32,
 ) -> Result<Cpu, Refusal>
-    ensures { Runs (two_is cpu operation s t a b next) (B.Bus.seen bus.old) result (B.Bus.seen bus.new) }
+    ensures { Runs (two_is cpu operation source.size destination.size source.operand destination.operand next) (B.Bus.seen bus.old) result (B.Bus.seen bus.new) }
 {
-    let p = locate(bus, cpu, s.bytes(), a)?;
-    let x = taken(bus, p, s, operation.first_access())?;
-    let q = locate(bus, p.cpu, t.bytes(), b)?;
+    let from = source.locate(bus, cpu)?;
+    let first = taken(bus, from, source.size, operation.first_access())?;
+    let to = destination.locate(bus, from.cpu)?;
     let access = operation.second_access();
-    let y = taken(bus, q, t, access)?;
-    let r = result(operation, s, t, cpu.flags, x, y);
-    let d = left(bus, q, t, access, r.value)?;
-    Ok(d.gone_on(r.flags, next))
+    let second = taken(bus, to, destination.size, access)?;
+    let outcome = result(
+        operation,
+        source.size,
+        destination.size,
+        cpu.flags,
+        first,
+        second,
+    );
+    let done = left(bus, to, destination.size, access, outcome.value)?;
+    Ok(done.gone_on(outcome.flags, next))
 }
