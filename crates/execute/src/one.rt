@@ -1,5 +1,6 @@
 // Instructions of one operand, the stack, and jumps.
 ghost use Rattle.std.specs.Prelude.{◌≡◌, ◌*◌};
+ghost use Rattle.number.specs.Outcomes.{shown};
 ghost use Rattle.bus.specs.Seen.{Runs};
 ghost use Rattle.execute.specs.One.{one_result as one_result_is, pushed as pushed_is, popped as popped_is, altering as altering_is, pushing as pushing_is, popping as popping_is, jumping as jumping_is, calling as calling_is, calling_relative as calling_relative_is, returning as returning_is, branched as branched_is};
 
@@ -16,8 +17,7 @@ const STACK: u8 = 31;
 
 // What an instruction of one operand comes to: INC adds 1, DEC subtracts 1, and TEST compares with 0. A doubleword stays.
 fn one_result(operation: OneOperation, size: Size, flags: Flags, x: u64) -> Computed<u64>
-    ensures number { result.value ≡ (one_result_is operation size flags x).number }
-    ensures flags { result.flags ≡ (one_result_is operation size flags x).flags }
+    ensures { shown (λ n. n) result ≡ one_result_is operation size flags x }
 {
     match (operation, size) {
         (_, Size::Doubleword) => moved(x, flags),

@@ -7,7 +7,7 @@ use number::flags::Flags;
 use number::width::{Size, Width};
 
 // What the processor holds. It goes by value: a step works on a copy, which is committed or thrown away.
-#[derive(Clone, Copy)]
+#[derive(Clone, Copy, PartialEq, Eq, Debug, Default)]
 pub struct Cpu {
     pub registers: [u32; 32],
     pub pc: u32,

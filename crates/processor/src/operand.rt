@@ -11,7 +11,7 @@ use instruction::{Address, Base, Operand};
 use number::width::{Size, Width};
 
 // A register, a constant of the instruction, or an address in memory.
-#[derive(Clone, Copy)]
+#[derive(Clone, Copy, PartialEq, Eq, Debug)]
 pub enum Location {
     InRegister(u8),
     Constant(u32),
@@ -19,7 +19,7 @@ pub enum Location {
 }
 
 // An operand's location, and the processor once it was found.
-#[derive(Clone, Copy)]
+#[derive(Clone, Copy, PartialEq, Eq, Debug)]
 pub struct Found {
     pub cpu: Cpu,
     pub location: Location,

@@ -2,6 +2,7 @@
 ghost use Rattle.std.specs.Prelude.{◌≡◌, ◌*◌, ◌%◌, ◌^◌, ◌<◌};
 ghost use Rattle.number.specs.Words.{signed};
 ghost use Rattle.number.specs.Sizes.{byte_count};
+ghost use Rattle.number.specs.Outcomes.{shown};
 ghost use Rattle.processor.specs.Operations.{combined as combined_is, result as result_is};
 
 use super::sized::{low_of, signed_of};
@@ -20,8 +21,7 @@ fn count(number: u64) -> i8
 
 // A result at its width as a number of 64 bits.
 pub fn of_width<W: Arithmetic>(computed: Computed<W>) -> Computed<u64>
-    ensures number { result.value ≡ W.Width.value computed.value }
-    ensures flags { result.flags ≡ computed.flags }
+    ensures { shown (λ n. n) result ≡ shown W.Width.value computed }
 {
     Computed {
         value: computed.value.to_u64(),
@@ -31,8 +31,7 @@ pub fn of_width<W: Arithmetic>(computed: Computed<W>) -> Computed<u64>
 
 // The number alone, with the flags as they were.
 pub fn moved<W: Width>(value: W, flags: Flags) -> Computed<W>
-    ensures value { result.value ≡ value }
-    ensures flags { result.flags ≡ flags }
+    ensures { result ≡ record { value = value; flags = flags } }
 {
     Computed { value, flags }
 }
@@ -45,8 +44,7 @@ fn combined<W: Arithmetic>(
     x: u64,
     y: u64,
 ) -> Computed<W>
-    ensures number { W.Width.value result.value ≡ (combined_is operation (8 * byte_count first) (8 * W.Width.size) flags x y).number }
-    ensures flags { result.flags ≡ (combined_is operation (8 * byte_count first) (8 * W.Width.size) flags x y).flags }
+    ensures { shown W.Width.value result ≡ combined_is operation (8 * byte_count first) (8 * W.Width.size) flags x y }
 {
     let src: W = W::low(x);
     let dst: W = W::low(y);
@@ -78,8 +76,7 @@ pub fn result(
     x: u64,
     y: u64,
 ) -> Computed<u64>
-    ensures number { result.value ≡ (result_is operation first second flags x y).number }
-    ensures flags { result.flags ≡ (result_is operation first second flags x y).flags }
+    ensures { shown (λ n. n) result ≡ result_is operation first second flags x y }
 {
     match second {
         Size::Byte => of_width(combined::<u8>(operation, first, flags, x, y)),

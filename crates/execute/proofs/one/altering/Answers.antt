@@ -24,7 +24,7 @@ returns-in_err-done g c =
     (goes_on _ c.in_ok-found.ensures
     (goes_on _ (by_case (taken c.in_ok-found.found.cpu c.args.operand.size c.in_ok-found.found.location) (sym c.access-access.ensures) c.in_ok-number.ensures)
     (ends_at _
-    (by_case (λ n. left c.in_ok-found.found.cpu c.args.operand.size c.in_ok-found.found.location (one_access c.args.operation) n) (sym c.one_result-outcome.ensures.number)
+    (by_case (λ n. left c.in_ok-found.found.cpu c.args.operand.size c.in_ok-found.found.location (one_access c.args.operation) n) (ap (λ o. o.number) (sym c.one_result-outcome.ensures))
     (by_case (λ a. left c.in_ok-found.found.cpu c.args.operand.size c.in_ok-found.found.location a c.one_result-outcome.result.value) (sym c.access-access.ensures) c.in_err-done.ensures)))))
 
 pub returns : goal.returns
@@ -33,6 +33,6 @@ returns g c =
     goes_on _ c.in_ok-found.ensures
     (goes_on _ (by_case (taken c.in_ok-found.found.cpu c.args.operand.size c.in_ok-found.found.location) (sym c.access-access.ensures) c.in_ok-number.ensures)
     (goes_on _
-    (by_case (λ n. left c.in_ok-found.found.cpu c.args.operand.size c.in_ok-found.found.location (one_access c.args.operation) n) (sym c.one_result-outcome.ensures.number)
+    (by_case (λ n. left c.in_ok-found.found.cpu c.args.operand.size c.in_ok-found.found.location (one_access c.args.operation) n) (ap (λ o. o.number) (sym c.one_result-outcome.ensures))
     (by_case (λ a. left c.in_ok-found.found.cpu c.args.operand.size c.in_ok-found.found.location a c.one_result-outcome.result.value) (sym c.access-access.ensures) c.in_ok-done.ensures))
-    (gives (sym (c.gone_on.ensures ∙ ap (λ f. gone_on c.in_ok-done.done f c.args.next) c.one_result-outcome.ensures.flags)))))
+    (gives (sym (c.gone_on.ensures ∙ ap (λ o. gone_on c.in_ok-done.done o.flags c.args.next) c.one_result-outcome.ensures)))))

@@ -42,7 +42,7 @@ returns-in_err-done g c =
     (goes_on _ c.in_ok-to.ensures
     (goes_on _ (by_case (taken c.in_ok-to.to.cpu c.args.destination.size c.in_ok-to.to.location) (sym c.second_access-access.ensures) c.in_ok-second.ensures)
     (ends_at _
-    (by_case (λ n. left c.in_ok-to.to.cpu c.args.destination.size c.in_ok-to.to.location (second_access c.args.operation) n) (sym c.result-outcome.ensures.number)
+    (by_case (λ n. left c.in_ok-to.to.cpu c.args.destination.size c.in_ok-to.to.location (second_access c.args.operation) n) (ap (λ o. o.number) (sym c.result-outcome.ensures))
     (by_case (λ a. left c.in_ok-to.to.cpu c.args.destination.size c.in_ok-to.to.location a c.result-outcome.result.value) (sym c.second_access-access.ensures) c.in_err-done.ensures)))))))
 
 pub returns : goal.returns
@@ -53,6 +53,6 @@ returns g c =
     (goes_on _ c.in_ok-to.ensures
     (goes_on _ (by_case (taken c.in_ok-to.to.cpu c.args.destination.size c.in_ok-to.to.location) (sym c.second_access-access.ensures) c.in_ok-second.ensures)
     (goes_on _
-    (by_case (λ n. left c.in_ok-to.to.cpu c.args.destination.size c.in_ok-to.to.location (second_access c.args.operation) n) (sym c.result-outcome.ensures.number)
+    (by_case (λ n. left c.in_ok-to.to.cpu c.args.destination.size c.in_ok-to.to.location (second_access c.args.operation) n) (ap (λ o. o.number) (sym c.result-outcome.ensures))
     (by_case (λ a. left c.in_ok-to.to.cpu c.args.destination.size c.in_ok-to.to.location a c.result-outcome.result.value) (sym c.second_access-access.ensures) c.in_ok-done.ensures))
-    (gives (sym (c.gone_on.ensures ∙ ap (λ f. gone_on c.in_ok-done.done f c.args.next) c.result-outcome.ensures.flags)))))))
+    (gives (sym (c.gone_on.ensures ∙ ap (λ o. gone_on c.in_ok-done.done o.flags c.args.next) c.result-outcome.ensures)))))))
