@@ -27,8 +27,7 @@ mod given;
 mod parts;
 mod told;
 
-use given::{Case, read_case};
-use parts::Memory;
+use given::Case;
 
 // Where a case stands: what the processor holds, how many steps are complete, and how many lines of each sheet are used.
 #[derive(Clone, Copy)]
@@ -39,22 +38,22 @@ struct Standing {
     written: usize,
 }
 
-// Runs a step on a bus over the board and the sheets. What it sets waits in the buffer.
+// Runs a step on a bus over the board and the sheets: what comes of it, how many lines of the reads sheet are used then,
+// and what it set, which waits in the buffer.
 fn attempt<'a, 'b, B: Board>(
     board: &'a B,
     reads: &'b mut [ReadLine],
-    read: usize,
     writes: &'a [WriteLine],
-    cpu: Cpu,
+    before: Standing,
 ) -> (Result<Cpu, Refusal>, usize, StoreBuffer) {
     let mut bus = StepBus {
         board,
         reads,
-        used: read,
+        used: before.read,
         writes,
         buffer: StoreBuffer::new(),
     };
-    let outcome = step(&mut bus, cpu);
+    let outcome = step(&mut bus, before.cpu);
     (outcome, bus.used, bus.buffer)
 }
 
@@ -64,22 +63,16 @@ fn try_step<B: Board>(
     reads: &mut [ReadLine],
     writes: &mut [WriteLine],
     before: Standing,
-) -> (Standing, Option<Refusal>) {
+) -> (Standing, Result<(), Refusal>) {
     let written = before.written.min(writes.len());
-    let (outcome, read, buffer) = attempt(
-        board,
-        reads,
-        before.read,
-        &writes[0..written],
-        before.cpu,
-    );
+    let (outcome, read, buffer) = attempt(board, reads, &writes[0..written], before);
     let refused = Standing { read, ..before };
     let completed = before.completed.saturating_add(1);
     match outcome {
-        Err(refusal) => (refused, Some(refusal)),
+        Err(refusal) => (refused, Err(refusal)),
         Ok(cpu) => {
             if !buffer.commit(board, writes, written, completed) {
-                return (refused, Some(Refusal::WritesFull));
+                return (refused, Err(Refusal::WritesFull));
             }
             let accepted = Standing {
                 cpu,
@@ -87,7 +80,7 @@ fn try_step<B: Board>(
                 read,
                 written: written + buffer.len(),
             };
-            (accepted, None)
+            (accepted, Ok(()))
         }
     }
 }
@@ -108,12 +101,12 @@ fn try_steps<B: Board>(
     };
     for _ in 0..start.steps {
         let before = standing;
-        let (after, refusal) = try_step(board, reads, writes, before);
+        let (after, outcome) = try_step(board, reads, writes, before);
         let mut line = String::new(rt.alloc());
-        told::tell_outcome(&mut line, refusal, &after.cpu)?;
+        told::tell_outcome(&mut line, outcome, &after.cpu)?;
         told::tell_registers(&mut line, &after.cpu, &start.cpu)?;
-        told::tell_reads(&mut line, reads, before.read, after.read)?;
-        told::tell_writes(&mut line, writes, before.written, after.written)?;
+        told::tell_lines(&mut line, 'r', reads, before.read..after.read)?;
+        told::tell_lines(&mut line, 'w', writes, before.written..after.written)?;
         told::tell_memory(&mut line, &start.memory, board)?;
         println!(rt; "{line}")?;
         standing = after;
@@ -137,13 +130,13 @@ fn on_sheets<B: Board>(rt: &HostRuntime, board: &mut B, start: &Case) -> anyhow:
 
 // Puts the board of a case together and tries its steps on it.
 fn execute_case(rt: &HostRuntime, start: &Case) -> anyhow::Result<()> {
-    let Memory {
+    let [
         mut first_ram,
         first_rom,
         mut second_ram,
         second_rom,
         mut third_ram,
-    } = start.memory.clone()?;
+    ] = start.memory.parts.clone()?;
     let top = Ram::new(third_ram.base, third_ram.bytes.as_mut_slice());
     let upper = Cut::new(
         third_ram.base,
@@ -170,7 +163,7 @@ fn execute_case(rt: &HostRuntime, start: &Case) -> anyhow::Result<()> {
 
 fn run(rt: &HostRuntime) -> anyhow::Result<()> {
     for line in BufReader::new(rt.alloc(), rt.stdin())?.lines(rt.alloc()) {
-        let start = read_case(rt.alloc(), line?.as_str())?;
+        let start = Case::read(rt.alloc(), line?.as_str())?;
         execute_case(rt, &start)?;
     }
     Ok(())

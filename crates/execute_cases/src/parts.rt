@@ -1,5 +1,5 @@
 // The memory of a case, by its parts.
-use anyhow::anyhow;
+use anyhow::Context;
 use std::alloc::Global;
 
 // Bytes from a base address on.
@@ -12,25 +12,21 @@ pub struct Part {
 impl Part {
     // BASE+COUNT, each byte as its address gives it.
     pub fn read(heap: Global, word: &str) -> anyhow::Result<Part> {
-        let Some((base, count)) = word.split_once('+') else {
-            return Err(anyhow!("a part is BASE+COUNT"));
-        };
+        let (base, count) = word.split_once('+').context("a part is BASE+COUNT")?;
         let base = u32::from_str_radix(base, 16)?;
-        let mut bytes = Vec::new(heap);
-        for i in 0..u32::from_str_radix(count, 16)? {
-            bytes.push(first_byte(base.wrapping_add(i)))?;
-        }
+        let count = u32::from_str_radix(count, 16)?;
+        let bytes = (0..count)
+            .map(|i| first_byte(base.wrapping_add(i)))
+            .collect(heap)?;
         Ok(Part { base, bytes })
     }
 
     // Puts a byte at an address, if it lies in this part.
     fn poke(&mut self, address: u32, byte: u8) {
-        if address < self.base {
-            return;
-        }
-        let i = (address - self.base) as usize;
-        if i < self.bytes.len() {
-            self.bytes[i] = byte;
+        if let Some(i) = address.checked_sub(self.base) {
+            if let Some(place) = self.bytes.get_mut(i as usize) {
+                *place = byte;
+            }
         }
     }
 }
@@ -43,20 +39,14 @@ fn first_byte(address: u32) -> u8 {
 // RAM and ROM by turns, in rising order.
 #[derive(Clone, Drop)]
 pub struct Memory {
-    pub first_ram: Part,
-    pub first_rom: Part,
-    pub second_ram: Part,
-    pub second_rom: Part,
-    pub third_ram: Part,
+    pub parts: [Part; 5],
 }
 
 impl Memory {
     // Puts a byte at an address.
     pub fn poke(&mut self, address: u32, byte: u8) {
-        self.first_ram.poke(address, byte);
-        self.first_rom.poke(address, byte);
-        self.second_ram.poke(address, byte);
-        self.second_rom.poke(address, byte);
-        self.third_ram.poke(address, byte);
+        for part in &mut self.parts {
+            part.poke(address, byte);
+        }
     }
 }

@@ -1,16 +1,82 @@
 // Telling what a step came to.
-use super::parts::{Memory, Part};
-use anyhow::anyhow;
+use super::parts::Memory;
+use anyhow::Context;
 use board::Board;
 use bus::{ReadLine, Refusal, WriteLine};
 use processor::Cpu;
 use std::fmt::Write;
+use std::ops::Range;
 
-// Bytes at addresses, of a step where there is a number; those that follow on one another are told together.
-#[derive(Drop)]
+// A byte at an address, and the step that put it there, where that is told too.
+#[derive(Clone, Copy)]
+pub struct Told {
+    step: Option<u32>,
+    address: u32,
+    byte: u8,
+}
+
+impl Told {
+    // Whether it goes on where another ends.
+    fn follows(self, before: Told) -> bool {
+        self.step == before.step && self.address == before.address.wrapping_add(1)
+    }
+}
+
+impl From<ReadLine> for Told {
+    fn from(line: ReadLine) -> Told {
+        Told {
+            step: None,
+            address: line.address,
+            byte: line.byte,
+        }
+    }
+}
+
+impl From<WriteLine> for Told {
+    fn from(line: WriteLine) -> Told {
+        Told {
+            step: Some(line.step),
+            address: line.address,
+            byte: line.byte,
+        }
+    }
+}
+
+// The outcome, the PC and the flags.
+pub fn tell_outcome(
+    line: &mut String,
+    outcome: Result<(), Refusal>,
+    cpu: &Cpu,
+) -> anyhow::Result<()> {
+    match outcome {
+        Ok(()) => write!(line, "ok")?,
+        Err(refusal) => {
+            let number = refusal.number();
+            let place = refusal.place();
+            write!(line, "{number}@{place:X}")?;
+        }
+    }
+    let pc = cpu.pc;
+    let flags = u8::from(cpu.flags);
+    write!(line, " {pc:X} {flags:04b}")?;
+    Ok(())
+}
+
+// The registers that differ from the start.
+pub fn tell_registers(line: &mut String, cpu: &Cpu, start: &Cpu) -> anyhow::Result<()> {
+    for (n, (now, before)) in cpu.registers.iter().zip(&start.registers).enumerate() {
+        if now != before {
+            write!(line, " R{n}={now:X}")?;
+        }
+    }
+    Ok(())
+}
+
+// Bytes under a letter. Those that follow on one another are told together.
+#[derive(Clone, Copy)]
 struct Runs {
     letter: char,
-    last: Option<(u32, u32)>,
+    last: Option<Told>,
 }
 
 impl Runs {
@@ -18,102 +84,38 @@ impl Runs {
         Runs { letter, last: None }
     }
 
-    fn add(&mut self, line: &mut String, step: u32, address: u32, byte: u8) -> anyhow::Result<()> {
-        let follows = match self.last {
-            Some((of, before)) => of == step && before.wrapping_add(1) == address,
-            None => {
-                let letter = self.letter;
-                write!(line, " {letter}")?;
-                false
+    fn add(&mut self, line: &mut String, told: Told) -> anyhow::Result<()> {
+        let Told {
+            step,
+            address,
+            byte,
+        } = told;
+        if self.last.is_none() {
+            let letter = self.letter;
+            write!(line, " {letter}")?;
+        }
+        if !self.last.is_some_and(|before| told.follows(before)) {
+            match step {
+                Some(step) => write!(line, " {step}:{address:X}:")?,
+                None => write!(line, " {address:X}:")?,
             }
-        };
-        if !follows && step > 0 {
-            write!(line, " {step}:{address:X}:")?;
-        } else if !follows {
-            write!(line, " {address:X}:")?;
         }
         write!(line, "{byte:02X}")?;
-        self.last = Some((step, address));
+        self.last = Some(told);
         Ok(())
     }
 }
 
-// The outcome, the PC and the flags.
-pub fn tell_outcome(line: &mut String, refusal: Option<Refusal>, cpu: &Cpu) -> anyhow::Result<()> {
-    match refusal {
-        None => write!(line, "ok")?,
-        Some(refusal) => {
-            let number = refusal.number();
-            let place = refusal.place();
-            write!(line, "{number}@{place:X}")?;
-        }
-    }
-    let pc = cpu.pc;
-    let flags = cpu.flags.number();
-    write!(line, " {pc:X} {flags:04b}")?;
-    Ok(())
-}
-
-// The registers that differ from the start.
-pub fn tell_registers(line: &mut String, cpu: &Cpu, start: &Cpu) -> anyhow::Result<()> {
-    for n in 0..32 {
-        let value = cpu.register(n);
-        if value != start.register(n) {
-            write!(line, " R{n}={value:X}")?;
-        }
-    }
-    Ok(())
-}
-
-// The lines of the reads sheet from one count to another.
-pub fn tell_reads(
+// The lines that were added to a sheet, under a letter.
+pub fn tell_lines<L: Copy + Into<Told>>(
     line: &mut String,
-    reads: &[ReadLine],
-    from: usize,
-    to: usize,
+    letter: char,
+    sheet: &[L],
+    added: Range<usize>,
 ) -> anyhow::Result<()> {
-    let mut runs = Runs::new('r');
-    for read in reads.iter().take(to).skip(from) {
-        runs.add(line, 0, read.address, read.byte)?;
-    }
-    Ok(())
-}
-
-// The lines of the writes sheet from one count to another.
-pub fn tell_writes(
-    line: &mut String,
-    writes: &[WriteLine],
-    from: usize,
-    to: usize,
-) -> anyhow::Result<()> {
-    let mut runs = Runs::new('w');
-    for write in writes.iter().take(to).skip(from) {
-        runs.add(line, write.step, write.address, write.byte)?;
-    }
-    Ok(())
-}
-
-fn tell_part<B: Board>(
-    line: &mut String,
-    runs: &mut Runs,
-    start: &Part,
-    board: &B,
-) -> anyhow::Result<()> {
-    let mut next = Some(start.base);
-    for byte in start.bytes.iter() {
-        // what would lie past FFFFFFFFh is never reached
-        let Some(address) = next else {
-            return Ok(());
-        };
-        match board.fetch(address) {
-            Some(now) => {
-                if now != *byte {
-                    runs.add(line, 0, address, now)?;
-                }
-            }
-            None => return Err(anyhow!("memory is missing")),
-        }
-        next = address.checked_add(1);
+    let mut runs = Runs::new(letter);
+    for told in sheet.iter().take(added.end).skip(added.start) {
+        runs.add(line, (*told).into())?;
     }
     Ok(())
 }
@@ -121,9 +123,21 @@ fn tell_part<B: Board>(
 // The bytes of memory that differ from the start.
 pub fn tell_memory<B: Board>(line: &mut String, start: &Memory, board: &B) -> anyhow::Result<()> {
     let mut runs = Runs::new('m');
-    tell_part(line, &mut runs, &start.first_ram, board)?;
-    tell_part(line, &mut runs, &start.first_rom, board)?;
-    tell_part(line, &mut runs, &start.second_ram, board)?;
-    tell_part(line, &mut runs, &start.second_rom, board)?;
-    tell_part(line, &mut runs, &start.third_ram, board)
+    for part in &start.parts {
+        // what would lie past FFFFFFFFh is never reached
+        for (address, before) in (part.base..=u32::MAX).zip(&part.bytes) {
+            let byte = board.fetch(address).context("memory is missing")?;
+            if byte != *before {
+                runs.add(
+                    line,
+                    Told {
+                        step: None,
+                        address,
+                        byte,
+                    },
+                )?;
+            }
+        }
+    }
+    Ok(())
 }
