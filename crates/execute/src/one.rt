@@ -83,10 +83,10 @@ pub(crate) fn pushing<B: Bus>(
 ) -> Result<Cpu, Refusal>
     ensures { Runs (pushing_is cpu operand next) (B.Bus.seen bus.old) result (B.Bus.seen bus.new) }
 {
-    let p = locate(bus, cpu, 4, operand)?;
-    let x = p.read(bus, Size::Word)?;
-    let d = pushed(bus, p.cpu, x)?;
-    Ok(d.gone_on(cpu.flags, next))
+    let found = locate(bus, cpu, 4, operand)?;
+    let word = found.read(bus, Size::Word)?;
+    let done = pushed(bus, found.cpu, word)?;
+    Ok(done.gone_on(cpu.flags, next))
 }
 
 // POP.
@@ -99,17 +99,18 @@ pub(crate) fn popping<B: Bus>(
     ensures { Runs (popping_is cpu operand next) (B.Bus.seen bus.old) result (B.Bus.seen bus.new) }
 {
     let (raised, word) = popped(bus, cpu)?;
-    let p = locate(bus, raised, 4, operand)?;
-    let d = p.write(bus, Size::Word, u64::from(word))?;
-    Ok(d.gone_on(cpu.flags, next))
+    let found = locate(bus, raised, 4, operand)?;
+    let done = found.write(bus, Size::Word, u64::from(word))?;
+    Ok(done.gone_on(cpu.flags, next))
 }
 
 // JMP.
 pub(crate) fn jumping<B: Bus>(bus: &mut B, cpu: Cpu, operand: Operand) -> Result<Cpu, Refusal>
     ensures { Runs (jumping_is cpu operand) (B.Bus.seen bus.old) result (B.Bus.seen bus.new) }
 {
-    let p = locate(bus, cpu, 1, operand)?;
-    Ok(p.cpu.gone_on(cpu.flags, p.location.address()))
+    let found = locate(bus, cpu, 1, operand)?;
+    let target = found.location.address();
+    Ok(found.cpu.gone_on(cpu.flags, target))
 }
 
 // JSR.
@@ -121,9 +122,10 @@ pub(crate) fn calling<B: Bus>(
 ) -> Result<Cpu, Refusal>
     ensures { Runs (calling_is cpu operand next) (B.Bus.seen bus.old) result (B.Bus.seen bus.new) }
 {
-    let p = locate(bus, cpu, 1, operand)?;
-    let d = pushed(bus, p.cpu, u64::from(next))?;
-    Ok(d.gone_on(cpu.flags, p.location.address()))
+    let found = locate(bus, cpu, 1, operand)?;
+    let target = found.location.address();
+    let done = pushed(bus, found.cpu, u64::from(next))?;
+    Ok(done.gone_on(cpu.flags, target))
 }
 
 // BSR.
@@ -135,9 +137,8 @@ pub(crate) fn calling_relative<B: Bus>(
 ) -> Result<Cpu, Refusal>
     ensures { Runs (calling_relative_is cpu displacement next) (B.Bus.seen bus.old) result (B.Bus.seen bus.new) }
 {
-    let target = displaced(cpu.pc, displacement);
-    let e = pushed(bus, cpu, u64::from(next))?;
-    Ok(e.gone_on(cpu.flags, target))
+    let done = pushed(bus, cpu, u64::from(next))?;
+    Ok(done.gone_on(cpu.flags, displaced(cpu.pc, displacement)))
 }
 
 // RSR.

@@ -198,14 +198,14 @@ pub fn string_instruction<B: Bus>(
 {
     let source_length = counted(bus, cpu, source)?;
     let destination_length = counted(bus, cpu, destination)?;
-    let p = locate(bus, cpu, size.bytes(), source.operand)?;
-    let q = locate(bus, p.cpu, size.bytes(), destination.operand)?;
+    let from = locate(bus, cpu, size.bytes(), source.operand)?;
+    let to = locate(bus, from.cpu, size.bytes(), destination.operand)?;
     let transfer = Transfer {
         size,
-        from: p.location.address(),
-        to: q.location.address(),
+        from: from.location.address(),
+        to: to.location.address(),
         source_length,
         destination_length,
     };
-    transfer.worked(bus, q.cpu, operation, next)
+    transfer.worked(bus, to.cpu, operation, next)
 }

@@ -4,14 +4,14 @@ use Rattle.processor.specs.Registers.{gone_on}
 use Rattle.execute.specs.One.{pushed, calling}
 use Rattle.execute.proofs.one.calling.Goals as goal
 
-pub returns-in_err-p : goal.returns-in_err-p
+pub returns-in_err-found : goal.returns-in_err-found
 unfolding calling
-returns-in_err-p g c = hands_on c.from_residual.ensures.1 (ends_at _ c.in_err-p.ensures)
+returns-in_err-found g c = hands_on c.from_residual.ensures.1 (ends_at _ c.in_err-found.ensures)
 
-pub returns-in_err-d : goal.returns-in_err-d
+pub returns-in_err-done : goal.returns-in_err-done
 unfolding calling
-returns-in_err-d g c = hands_on c.from_residual-in_err-d.ensures.1 (goes_on _ c.in_ok-p.ensures (ends_at _ (by_case (pushed c.in_ok-p.p.cpu) (sym c.from.ensures) c.in_err-d.ensures)))
+returns-in_err-done g c = hands_on c.from_residual-in_err-done.ensures.1 (goes_on _ c.in_ok-found.ensures (ends_at _ (by_case (pushed c.in_ok-found.found.cpu) (sym c.from.ensures) c.in_err-done.ensures)))
 
 pub returns : goal.returns
 unfolding calling
-returns g c = goes_on _ c.in_ok-p.ensures (goes_on _ (by_case (pushed c.in_ok-p.p.cpu) (sym c.from.ensures) c.in_ok-d.ensures) (gives (sym (c.gone_on.ensures ∙ ap (gone_on c.in_ok-d.d c.args.cpu.flags) c.address.ensures))))
+returns g c = goes_on _ c.in_ok-found.ensures (goes_on _ (by_case (pushed c.in_ok-found.found.cpu) (sym c.from.ensures) c.in_ok-done.ensures) (gives (sym (c.gone_on.ensures ∙ ap (gone_on c.in_ok-done.done c.args.cpu.flags) c.address-target.ensures))))

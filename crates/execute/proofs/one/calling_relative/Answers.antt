@@ -8,12 +8,12 @@ use mir.Val.{to_z, of_z}
 use mir.Syntax.{w32}
 use Rattle.execute.proofs.one.calling_relative.Goals as goal
 
-pub returns-in_err-e : goal.returns-in_err-e
+pub returns-in_err-done : goal.returns-in_err-done
 unfolding calling_relative
-returns-in_err-e g c = hands_on c.from_residual.ensures.1 (ends_at _ (by_case (pushed c.args.cpu) (sym c.from.ensures) c.in_err-e.ensures))
+returns-in_err-done g c = hands_on c.from_residual.ensures.1 (ends_at _ (by_case (pushed c.args.cpu) (sym c.from.ensures) c.in_err-done.ensures))
 
 pub returns : goal.returns
 unfolding calling_relative
 returns g c =
     let z : to_z w32 (of_z w32 c.args.displacement) ≡ c.args.displacement = search rules in
-    goes_on _ (by_case (pushed c.args.cpu) (sym c.from.ensures) c.in_ok-e.ensures) (gives (sym (c.gone_on.ensures ∙ ap (gone_on c.in_ok-e.e c.args.cpu.flags) (c.displaced-target.ensures ∙ ap (displaced c.args.cpu.pc) z))))
+    goes_on _ (by_case (pushed c.args.cpu) (sym c.from.ensures) c.in_ok-done.done.ensures) (gives (sym (c.gone_on.ensures ∙ ap (gone_on c.in_ok-done.done c.args.cpu.flags) (c.displaced.ensures ∙ ap (displaced c.args.cpu.pc) z))))

@@ -9,21 +9,21 @@ pub returns-in_err-raised : goal.returns-in_err-raised
 unfolding popping
 returns-in_err-raised g c = hands_on c.from_residual.ensures.1 (ends_at _ c.in_err-raised.ensures)
 
-pub returns-in_err-p : goal.returns-in_err-p
+pub returns-in_err-found : goal.returns-in_err-found
 unfolding popping
-returns-in_err-p g c = hands_on c.from_residual-in_err-p.ensures.1 (goes_on _ c.in_ok-raised.ensures (ends_at _ c.in_err-p.ensures))
+returns-in_err-found g c = hands_on c.from_residual-in_err-found.ensures.1 (goes_on _ c.in_ok-raised.ensures (ends_at _ c.in_err-found.ensures))
 
-pub returns-in_err-d : goal.returns-in_err-d
+pub returns-in_err-done : goal.returns-in_err-done
 unfolding popping
-returns-in_err-d g c =
-    hands_on c.from_residual-in_err-d.ensures.1
+returns-in_err-done g c =
+    hands_on c.from_residual-in_err-done.ensures.1
     (goes_on _ c.in_ok-raised.ensures
-    (goes_on _ c.in_ok-p.ensures
-    (ends_at _ (by_case (write_at c.in_ok-p.p.cpu Word c.in_ok-p.p.location) (sym c.from.ensures) c.in_err-d.ensures))))
+    (goes_on _ c.in_ok-found.ensures
+    (ends_at _ (by_case (write_at c.in_ok-found.found.cpu Word c.in_ok-found.found.location) (sym c.from.ensures) c.in_err-done.ensures))))
 
 pub returns : goal.returns
 unfolding popping
 returns g c =
     goes_on _ c.in_ok-raised.ensures
-    (goes_on _ c.in_ok-p.ensures
-    (goes_on _ (by_case (write_at c.in_ok-p.p.cpu Word c.in_ok-p.p.location) (sym c.from.ensures) c.in_ok-d.ensures) (gives (sym c.gone_on.ensures))))
+    (goes_on _ c.in_ok-found.ensures
+    (goes_on _ (by_case (write_at c.in_ok-found.found.cpu Word c.in_ok-found.found.location) (sym c.from.ensures) c.in_ok-done.ensures) (gives (sym c.gone_on.ensures))))
