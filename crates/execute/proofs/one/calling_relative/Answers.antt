@@ -16,4 +16,4 @@ pub returns : goal.returns
 unfolding calling_relative
 returns g c =
     let z : to_z w32 (of_z w32 c.args.displacement) ≡ c.args.displacement = search rules in
-    goes_on _ (by_case (pushed c.args.cpu) (sym c.from.ensures) c.in_ok-done.done.ensures) (gives (sym (c.gone_on.ensures ∙ ap (gone_on c.in_ok-done.done c.args.cpu.flags) (c.displaced.ensures ∙ ap (displaced c.args.cpu.pc) z))))
+    goes_on _ (by_case (pushed c.args.cpu) (sym c.from.ensures) c.in_ok-done.ensures) (gives (sym (c.gone_on.ensures ∙ ap (gone_on c.in_ok-done.done c.args.cpu.flags) (c.displaced.ensures ∙ ap (displaced c.args.cpu.pc) z))))
