@@ -1,5 +1,5 @@
 -- What the code of a try does is what the try should come to.
-use Rattle.std.proofs.Common.{◌≡◌, ℕ, ◌+◌, ◌≤◌, Bool, true, false, cond, List, [], ◌++◌, length, take, drop, is_some, Some, None, Ok, Err, Option, Result, sym, refl, ap, ◌∙◌, append_assoc, le_refl, arith, length-append}
+use Rattle.std.proofs.Common.{◌≡◌, ℕ, ◌+◌, ◌≤◌, Bool, true, cond, List, ◌++◌, length, take, drop, Ok, Err, Result, sym, refl, ap, ◌∙◌, append_assoc, le_refl, arith, length-append}
 use Rattle.std.proofs.lemmas.List.{length-take-le, take_at, drop_at}
 use Rattle.std.proofs.lemmas.Bool.{le-leb}
 use Rattle.std.proofs.lemmas.Bool.Decides.{nat_tests}
@@ -15,19 +15,19 @@ use Rattle.bus.proofs.Lines.{drop_more_same}
 use Rattle.processor.specs.declared.cpu.Cpu.{Cpu}
 use Rattle.execute.specs.Step.{one_step}
 use Rattle.machine.specs.declared.held.Machine.{Machine}
-use Rattle.session.specs.Calls.{State, state, objection, concluded, stepped, attempted, Comes}
-use Rattle.session.proofs.Attempts.{found, left}
+use Rattle.session.specs.Calls.{State, Moment, state_at, objection, world, trail, concluded, stepped, attempted, attempted_at, Comes}
+use Rattle.session.proofs.Attempts.{left}
 
 -- nothing has changed
-pub stays : {R : Type 0} (rights : ℕ → Right) (f : ℕ → ℕ) (m : Machine) (rs : List ReadLine) (ws : List WriteLine) (o : State × R) (r : R) → o ≡ (state m rs ws f, r) → Comes o r m m rs rs ws ws f rights rights
-stays rights f m rs ws o r e = record {
+pub stays : {R : Type 0} (t : Moment) (o : State × R) (r : R) → o ≡ (state_at t, r) → Comes o r t t
+stays t o r e = record {
   answer = sym (ap (λ z. z.1) e);
   left = sym (ap (λ z. z.0) e);
   kept = refl;
   reads_length = refl;
   writes_length = refl;
-  reads_more = le_refl m.read;
-  writes_more = le_refl m.written;
+  reads_more = le_refl t.machine.read;
+  writes_more = le_refl t.machine.written;
   reads_within = λ h. h;
   writes_within = λ h. h;
   reads_past = refl;
@@ -35,8 +35,8 @@ stays rights f m rs ws o r e = record {
 }
 
 -- one call after another: what the second came to is what both came to, p
-pub then_comes : {A B C : Type 0} {o : State × A} {x : A} {q : State × B} {y : B} {m m' m'' : Machine} {rs rs' rs'' : List ReadLine} {ws ws' ws'' : List WriteLine} {f f' : ℕ → ℕ} {R R' R'' : ℕ → Right} (p : State × C) (z : C) → Comes o x m m' rs rs' ws ws' f R R' → Comes q y m' m'' rs' rs'' ws' ws'' f' R' R'' → z ≡ p.1 → q.0 ≡ p.0 → Comes p z m m'' rs rs'' ws ws'' f' R R''
-then_comes {m' = m'} {m'' = m''} {rs = rs} {rs' = rs'} {ws = ws} {ws' = ws'} p z h k a e = record {
+pub then_comes : {A B C : Type 0} {o : State × A} {x : A} {q : State × B} {y : B} {t u v : Moment} (p : State × C) (z : C) → Comes o x t u → Comes q y u v → z ≡ p.1 → q.0 ≡ p.0 → Comes p z t v
+then_comes {t = t} {u = u} {v = v} p z h k a e = record {
   answer = a;
   left = k.left ∙ e;
   kept = k.kept ∙ h.kept;
@@ -46,24 +46,20 @@ then_comes {m' = m'} {m'' = m''} {rs = rs} {rs' = rs'} {ws = ws} {ws' = ws'} p z
   writes_more = omega (arith, h.writes_more, k.writes_more);
   reads_within = λ p. omega (arith, k.reads_within (omega (arith, h.reads_within p, h.reads_length)), h.reads_length);
   writes_within = λ p. omega (arith, k.writes_within (omega (arith, h.writes_within p, h.writes_length)), h.writes_length);
-  reads_past = k.reads_past ∙ drop_more_same m'.read m''.read rs' rs k.reads_more h.reads_past;
-  writes_past = k.writes_past ∙ drop_more_same m'.written m''.written ws' ws k.writes_more h.writes_past;
+  reads_past = k.reads_past ∙ drop_more_same u.machine.read v.machine.read u.reads t.reads k.reads_more h.reads_past;
+  writes_past = k.writes_past ∙ drop_more_same u.machine.written v.machine.written u.writes t.writes k.writes_more h.writes_past;
 }
 
-pub objected : (rights : ℕ → Right) (f : ℕ → ℕ) (m : Machine) (rs : List ReadLine) (ws : List WriteLine) (r : Option Refusal) → r ≡ objection (length rs) (length ws) m → is_some r ≡ true → Comes (attempted rights (length rs) (length ws) (state m rs ws f)) r m m rs rs ws ws f rights rights
+-- something stands against the step
+pub objected : (t : Moment) (e : Refusal) (r : Result (Unit {0}) Refusal) → Err e ≡ objection (length t.reads) (length t.writes) t.machine → r ≡ Err e → Comes (attempted_at t) r t t
 unfolding attempted
-objected rights f m rs ws (Some e) h k = stays rights f m rs ws _ _ (ap (stepped rights (state m rs ws f)) (sym h))
-objected rights f m rs ws None h k = let z : ◌≡◌ {A = ℕ} 0 1 = cc in absurd (omega arith)
-
-pub none_is : (r : Option Refusal) → is_some r ≡ false → r ≡ None
-none_is (Some e) k = let z : ◌≡◌ {A = ℕ} 0 1 = cc in absurd (omega arith)
-none_is None k = refl
+objected t e r h q = stays t _ _ (ap (stepped t.rights (state_at t)) (sym h) ∙ ap (λ z. (state_at t, z)) (sym q))
 
 -- where nothing stands against a step there are free lines
-pub free_reads : (m n : ℕ) (s : Machine) → objection m n s ≡ None → s.read + 300 ≤ m
+pub free_reads : (m n : ℕ) (s : Machine) → objection m n s ≡ Ok tt → s.read + 300 ≤ m
 free_reads m n s e = grind (arith, nat_tests)
 
-pub free_writes : (m n : ℕ) (s : Machine) → objection m n s ≡ None → s.written + 256 ≤ n
+pub free_writes : (m n : ℕ) (s : Machine) → objection m n s ≡ Ok tt → s.written + 256 ≤ n
 free_writes m n s e = grind (arith, nat_tests)
 
 -- a sheet with new lines: its used lines, the rest, and its length
@@ -80,26 +76,26 @@ module _ {L : Type 0} (used : ℕ) (new sheet : List L) (room : used + length ne
   pub entered_past : drop (used + length new) (entered used new sheet) ≡ drop (used + length new) sheet
   entered_past = ap (drop (used + length new)) shape ∙ drop_at (take used sheet ++ new) (drop (used + length new) sheet) (used + length new) front
 
-module _ (rights : ℕ → Right) (f : ℕ → ℕ) (s : Machine) (rs rs' : List ReadLine) (ws : List WriteLine) (used : ℕ) (o : Result Cpu Refusal) (own : List (ℕ × ℕ)) (c : Option Refusal) (clear : c ≡ objection (length rs) (length ws) s) (none : is_some c ≡ false) (comes : runs (one_step s.cpu) (found rights f (take s.written ws)) (left (take s.read rs) []) ≡ (o, left (take used rs') own)) (later : Later s.read rs used rs') where
-  nothing : objection (length rs) (length ws) s ≡ None
-  nothing = sym clear ∙ none_is c none
+module _ (t : Moment) (rs' : List ReadLine) (used : ℕ) (o : Result Cpu Refusal) (own : List (ℕ × ℕ)) (clear : objection (length t.reads) (length t.writes) t.machine ≡ Ok tt) (comes : runs (one_step t.machine.cpu) (world t.rights (state_at t)) (trail (state_at t)) ≡ (o, left (take used rs') own)) (later : Later t.machine.read t.reads used rs') where
+  abbrev s : Machine
+  s = t.machine
 
   within : used ≤ length rs'
-  within = later.within (omega (arith, free_reads (length rs) (length ws) s nothing))
+  within = later.within (omega (arith, free_reads (length t.reads) (length t.writes) s clear))
 
   read_is : length (take used rs') ≡ used
   read_is = length-take-le used rs' within
 
-  outcome : attempted rights (length rs) (length ws) (state s rs ws f) ≡ concluded rights (state s rs ws f) o (left (take used rs') own)
+  outcome : attempted_at t ≡ concluded t.rights (state_at t) o (left (take used rs') own)
   unfolding attempted
-  outcome = ap (stepped rights (state s rs ws f)) nothing ∙ ap (λ z. concluded rights (state s rs ws f) z.0 z.1) comes
+  outcome = ap (stepped t.rights (state_at t)) clear ∙ ap (λ z. concluded t.rights (state_at t) z.0 z.1) comes
 
-  pub refused : (e : Refusal) → o ≡ Err e → Comes (attempted rights (length rs) (length ws) (state s rs ws f)) (Some e) s (record { cpu = s.cpu; completed = s.completed; read = used; written = s.written }) rs rs' ws ws f rights rights
-  refused e q =
-      let p = outcome ∙ ap (λ z. concluded rights (state s rs ws f) z (left (take used rs') own)) q in
+  pub refused : (e : Refusal) → o ≡ Err e → (r : Result (Unit {0}) Refusal) → r ≡ Err e → Comes (attempted_at t) r t (record { machine = record { cpu = s.cpu; completed = s.completed; read = used; written = s.written }; reads = rs'; writes = t.writes; rights = t.rights; bytes = t.bytes })
+  refused e q r a =
+      let p = outcome ∙ ap (λ z. concluded t.rights (state_at t) z (left (take used rs') own)) q in
       record {
-        answer = sym (ap (λ z. z.1) p);
-        left = (λ i. record { machine = record { cpu = s.cpu; completed = s.completed; read = sym read_is i; written = s.written }; reads = take used rs'; writes = take s.written ws; bytes = f }) ∙ sym (ap (λ z. z.0) p);
+        answer = a ∙ sym (ap (λ z. z.1) p);
+        left = (λ i. record { machine = record { cpu = s.cpu; completed = s.completed; read = sym read_is i; written = s.written }; reads = take used rs'; writes = take s.written t.writes; bytes = t.bytes }) ∙ sym (ap (λ z. z.0) p);
         kept = refl;
         reads_length = later.long;
         writes_length = refl;
@@ -112,8 +108,11 @@ module _ (rights : ℕ → Right) (f : ℕ → ℕ) (s : Machine) (rs rs' : List
       }
 
   module _ (n : ℕ) (count : n ≡ length own) (few : n ≤ 256) where
+    abbrev ws : List WriteLine
+    ws = t.writes
+
     room : s.written + length (write_lines (s.completed + 1) own) ≤ length ws
-    room = omega (arith, free_writes (length rs) (length ws) s nothing, length_lines (s.completed + 1) own)
+    room = omega (arith, free_writes (length t.reads) (length ws) s clear, length_lines (s.completed + 1) own)
 
     fits : has_room s.written (length own) ws ≡ true
     fits = le-leb (s.written + length own) (length ws) (omega (arith, room, length_lines (s.completed + 1) own))
@@ -121,11 +120,11 @@ module _ (rights : ℕ → Right) (f : ℕ → ℕ) (s : Machine) (rs rs' : List
     lines_are : s.written + length (write_lines (s.completed + 1) own) ≡ s.written + n
     lines_are = omega (arith, length_lines (s.completed + 1) own)
 
-    pub accepted : (x : Cpu) → o ≡ Ok x → (b : Bool) → b ≡ has_room s.written (length own) ws → (ws' : List WriteLine) (f' : ℕ → ℕ) (rights' : ℕ → Right) → rights' ≡ rights → f' ≡ cond b (stores rights own f) f → ws' ≡ cond b (entered s.written (write_lines (s.completed + 1) own) ws) ws → length ws' ≡ length ws → Comes (attempted rights (length rs) (length ws) (state s rs ws f)) None s (record { cpu = x; completed = s.completed + 1; read = used; written = s.written + n }) rs rs' ws ws' f' rights rights'
+    pub accepted : (x : Cpu) → o ≡ Ok x → (b : Bool) → b ≡ has_room s.written (length own) ws → (ws' : List WriteLine) (f' : ℕ → ℕ) (rights' : ℕ → Right) → rights' ≡ t.rights → f' ≡ cond b (stores t.rights own t.bytes) t.bytes → ws' ≡ cond b (entered s.written (write_lines (s.completed + 1) own) ws) ws → length ws' ≡ length ws → Comes (attempted_at t) (Ok tt) t (record { machine = record { cpu = x; completed = s.completed + 1; read = used; written = s.written + n }; reads = rs'; writes = ws'; rights = rights'; bytes = f' })
     accepted x q b e ws' f' rights' k h w long =
-        let p = outcome ∙ ap (λ z. concluded rights (state s rs ws f) z (left (take used rs') own)) q in
+        let p = outcome ∙ ap (λ z. concluded t.rights (state_at t) z (left (take used rs') own)) q in
         let all : b ≡ true = e ∙ fits in
-        let bytes : f' ≡ stores rights own f = h ∙ ap (λ z. cond z (stores rights own f) f) all in
+        let bytes : f' ≡ stores t.rights own t.bytes = h ∙ ap (λ z. cond z (stores t.rights own t.bytes) t.bytes) all in
         let sheet : ws' ≡ entered s.written (write_lines (s.completed + 1) own) ws = w ∙ ap (λ z. cond z (entered s.written (write_lines (s.completed + 1) own) ws) ws) all in
         let lines : take (s.written + n) ws' ≡ take s.written ws ++ write_lines (s.completed + 1) own = ap (take (s.written + n)) sheet ∙ (ap (λ k. take k (entered s.written (write_lines (s.completed + 1) own) ws)) (sym lines_are) ∙ entered_used s.written (write_lines (s.completed + 1) own) ws room) in
         let past : drop (s.written + n) ws' ≡ drop (s.written + n) ws = ap (drop (s.written + n)) sheet ∙ (ap (λ k. drop k (entered s.written (write_lines (s.completed + 1) own) ws)) (sym lines_are) ∙ (entered_past s.written (write_lines (s.completed + 1) own) ws room ∙ ap (λ k. drop k ws) lines_are)) in

@@ -22,9 +22,21 @@ pub record State : Type 0 where
   pub writes : List WriteLine
   pub bytes : ℕ → ℕ
 
--- the state of a session beside two sheets and a board: the used lines are a sheet's first
-abbrev pub state : Machine → List ReadLine → List WriteLine → (ℕ → ℕ) → State
-state m reads writes f = record { machine = m; reads = take m.read reads; writes = take m.written writes; bytes = f }
+-- a moment of a session: what it holds, its two sheets, and its board
+pub record Moment : Type 0 where
+  pub machine : Machine
+  pub reads : List ReadLine
+  pub writes : List WriteLine
+  pub rights : ℕ → Right
+  pub bytes : ℕ → ℕ
+
+-- with a board of those rights and bytes
+abbrev pub moment : {B : Type 0} → (B → ℕ → Right) → (B → ℕ → ℕ) → Machine → B → List ReadLine → List WriteLine → Moment
+moment rights bytes m board reads writes = record { machine = m; reads = reads; writes = writes; rights = rights board; bytes = bytes board }
+
+-- the state at a moment: the used lines are a sheet's first
+abbrev pub state_at : Moment → State
+state_at t = record { machine = t.machine; reads = take t.machine.read t.reads; writes = take t.machine.written t.writes; bytes = t.bytes }
 
 -- ---- before the start
 
@@ -59,13 +71,13 @@ short m n s = nat_lt m s.read || nat_lt n s.written
 
 -- what stands against a step, whatever the instruction: a sheet too short, a billion steps complete, fewer than 300 free reads lines, fewer
 -- than 256 free writes lines, in this order
-abbrev pub objection : ℕ → ℕ → Machine → Option Refusal
+abbrev pub objection : ℕ → ℕ → Machine → Result (Unit {0}) Refusal
 objection m n s =
-    cond (short m n s) (Some SheetTooShort)
-    (cond (nat_le 1000000000 s.completed) (Some StepLimit)
-    (cond (nat_lt (m - s.read) 300) (Some ReadsFull)
-    (cond (nat_lt (n - s.written) 256) (Some WritesFull)
-    None)))
+    cond (short m n s) (Err SheetTooShort)
+    (cond (nat_le 1000000000 s.completed) (Err StepLimit)
+    (cond (nat_lt (m - s.read) 300) (Err ReadsFull)
+    (cond (nat_lt (n - s.written) 256) (Err WritesFull)
+    (Ok tt))))
 
 -- what a step finds, on a board with those rights, and what it begins with
 abbrev pub world : (ℕ → Right) → State → World
@@ -75,7 +87,7 @@ abbrev pub trail : State → Trail
 trail s = record { reads = s.reads; own = [] }
 
 -- a step that was refused keeps its reads lines, and nothing else; an accepted one stores its bytes in order, with a writes line each
-abbrev pub concluded : (ℕ → Right) → State → Result Cpu Refusal → Trail → State × Option Refusal
+abbrev pub concluded : (ℕ → Right) → State → Result Cpu Refusal → Trail → State × Result (Unit {0}) Refusal
 concluded rights s (Err e) t = (
   record {
     machine = record { cpu = s.machine.cpu; completed = s.machine.completed; read = length t.reads; written = s.machine.written };
@@ -83,7 +95,7 @@ concluded rights s (Err e) t = (
     writes = s.writes;
     bytes = s.bytes;
   },
-  Some e,
+  Err e,
 )
 concluded rights s (Ok c) t = (
   record {
@@ -92,32 +104,32 @@ concluded rights s (Ok c) t = (
     writes = s.writes ++ write_lines (s.machine.completed + 1) t.own;
     bytes = stores rights t.own s.bytes;
   },
-  None,
+  Ok tt,
 )
 
 -- the step itself, where nothing stands against it: one instruction decoded and carried out
-abbrev pub stepped : (ℕ → Right) → State → Option Refusal → State × Option Refusal
-stepped rights s (Some e) = (s, Some e)
-stepped rights s None = concluded rights s (runs (one_step s.machine.cpu) (world rights s) (trail s)).0 (runs (one_step s.machine.cpu) (world rights s) (trail s)).1
+abbrev pub stepped : (ℕ → Right) → State → Result (Unit {0}) Refusal → State × Result (Unit {0}) Refusal
+stepped rights s (Err e) = (s, Err e)
+stepped rights s (Ok clear) = concluded rights s (runs (one_step s.machine.cpu) (world rights s) (trail s)).0 (runs (one_step s.machine.cpu) (world rights s) (trail s)).1
 
 -- one try of a step, beside a reads sheet of m lines and a writes sheet of n
-unfoldable pub attempted : (ℕ → Right) → ℕ → ℕ → State → State × Option Refusal
+unfoldable pub attempted : (ℕ → Right) → ℕ → ℕ → State → State × Result (Unit {0}) Refusal
 attempted rights m n s = stepped rights s (objection m n s.machine)
 
 -- ---- runs
 
 -- the answer once k steps were completed and one more was tried
-abbrev pub counted : ℕ → Option Refusal → Answer
-counted k None = record { completed = k + 1; refusal = None }
-counted k (Some e) = record { completed = k; refusal = Some e }
+abbrev pub counted : ℕ → Result (Unit {0}) Refusal → Answer
+counted k (Ok done) = record { completed = k + 1; refusal = None }
+counted k (Err e) = record { completed = k; refusal = Some e }
 
 -- one more try, unless one was refused
-abbrev pub further : (State → State × Option Refusal) → State → ℕ → Option Refusal → State × Answer
+abbrev pub further : (State → State × Result (Unit {0}) Refusal) → State → ℕ → Option Refusal → State × Answer
 further try s k (Some e) = (s, record { completed = k; refusal = Some e })
 further try s k None = ((try s).0, counted k (try s).1)
 
 -- so many tries, up to the first refusal
-unfoldable pub tries : (State → State × Option Refusal) → ℕ → State → State × Answer
+unfoldable pub tries : (State → State × Result (Unit {0}) Refusal) → ℕ → State → State × Answer
 tries try zero s = (s, record { completed = 0; refusal = None })
 tries try (suc k) s = further try (tries try k s).0 (tries try k s).1.completed (tries try k s).1.refusal
 
@@ -131,17 +143,25 @@ ran rights m n count s = unless_short (short m n s.machine) s (tries (attempted 
 
 -- ---- what a call's code leaves
 
--- a call on a session, two sheets and a board left just what the outcome o says: its answer, what the session holds, the used lines and the
--- board's bytes. Rights and lengths are as they were, used lines are only added and stay within the sheets, and lines past them are untouched
-pub record Comes {R : Type 0} (o : State × R) (r : R) (m m' : Machine) (reads reads' : List ReadLine) (writes writes' : List WriteLine) (f : ℕ → ℕ) (rights rights' : ℕ → Right) : Type 0 where
+-- a try of a step, and a run of so many, that find a session at a moment
+abbrev pub attempted_at : Moment → State × Result (Unit {0}) Refusal
+attempted_at t = attempted t.rights (length t.reads) (length t.writes) (state_at t)
+
+abbrev pub ran_at : ℕ → Moment → State × Answer
+ran_at count t = ran t.rights (length t.reads) (length t.writes) count (state_at t)
+
+-- a call that found a session at the moment t and left it at u did just what the outcome o says: its answer r, what the session holds, the used
+-- lines and the board's bytes. Rights and lengths are as they were, used lines are only added and stay within the sheets, and lines past them
+-- are untouched
+pub record Comes {R : Type 0} (o : State × R) (r : R) (t u : Moment) : Type 0 where
   pub answer : r ≡ o.1
-  pub left : state m' reads' writes' f ≡ o.0
-  pub kept : rights' ≡ rights
-  pub reads_length : length reads' ≡ length reads
-  pub writes_length : length writes' ≡ length writes
-  pub reads_more : m.read ≤ m'.read
-  pub writes_more : m.written ≤ m'.written
-  pub reads_within : m.read ≤ length reads → m'.read ≤ length reads
-  pub writes_within : m.written ≤ length writes → m'.written ≤ length writes
-  pub reads_past : drop m'.read reads' ≡ drop m'.read reads
-  pub writes_past : drop m'.written writes' ≡ drop m'.written writes
+  pub left : state_at u ≡ o.0
+  pub kept : u.rights ≡ t.rights
+  pub reads_length : length u.reads ≡ length t.reads
+  pub writes_length : length u.writes ≡ length t.writes
+  pub reads_more : t.machine.read ≤ u.machine.read
+  pub writes_more : t.machine.written ≤ u.machine.written
+  pub reads_within : t.machine.read ≤ length t.reads → u.machine.read ≤ length t.reads
+  pub writes_within : t.machine.written ≤ length t.writes → u.machine.written ≤ length t.writes
+  pub reads_past : drop u.machine.read u.reads ≡ drop u.machine.read t.reads
+  pub writes_past : drop u.machine.written u.writes ≡ drop u.machine.written t.writes

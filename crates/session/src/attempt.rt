@@ -1,12 +1,12 @@
 // One try of a step.
-ghost use Rattle.std.specs.Prelude.{◌≡◌, ◌+◌, ◌≤◌, true, [], length, take};
+ghost use Rattle.std.specs.Prelude.{◌≡◌, true, Ok, length, take};
 ghost use Rattle.board.specs.Meaning.{writable};
 ghost use Rattle.bus.specs.Sheets.{All};
 ghost use Rattle.bus.specs.Program.{runs};
 ghost use Rattle.bus.specs.Seen.{Runs, Later};
 ghost use Rattle.execute.specs.Step.{one_step};
-ghost use Rattle.session.specs.Calls.{short, objection as objection_to};
-ghost use Rattle.session.specs.Attempt.{bus_seen, waiting};
+ghost use Rattle.session.specs.Calls.{short, objection as objection_to, moment, state_at, world, trail};
+ghost use Rattle.session.specs.Attempt.{bus_seen};
 
 use board::Board;
 use bus::{ReadLine, Refusal, StepBus, StoreBuffer, WriteLine};
@@ -30,22 +30,22 @@ pub(crate) fn is_short(machine: &Machine, reads: usize, writes: usize) -> bool
 }
 
 // What stands against a step, beside sheets of so many lines.
-pub(crate) fn objection(machine: &Machine, reads: usize, writes: usize) -> Option<Refusal>
+pub(crate) fn objection(machine: &Machine, reads: usize, writes: usize) -> Result<(), Refusal>
     ensures { result ≡ objection_to reads writes machine.now }
 {
     if is_short(machine, reads, writes) {
-        return Some(Refusal::SheetTooShort);
+        return Err(Refusal::SheetTooShort);
     }
     if machine.completed >= LIMIT {
-        return Some(Refusal::StepLimit);
+        return Err(Refusal::StepLimit);
     }
     if reads - machine.read < READS {
-        return Some(Refusal::ReadsFull);
+        return Err(Refusal::ReadsFull);
     }
     if writes - machine.written < WRITES {
-        return Some(Refusal::WritesFull);
+        return Err(Refusal::WritesFull);
     }
-    None
+    Ok(())
 }
 
 // What a try came to: the registers or the refusal, how many reads lines are used then, and the bytes that wait.
@@ -63,33 +63,39 @@ fn on_bus<'a, 'b, B: Board>(bus: &mut StepBus<'a, 'b, B>, cpu: Cpu) -> Result<Cp
     step(bus, cpu)
 }
 
-// Tries the step on a bus over the board and the sheets. What it sets waits in the buffer.
+// Tries the step on a bus over the board and the sheets, where nothing stands against it. What it sets waits in the buffer.
 pub(crate) fn try_step<'a, 'b, B: Board>(
-    cpu: Cpu,
+    machine: &Machine,
     board: &'a B,
     reads: &'b mut [ReadLine],
-    read: usize,
     writes: &'a [WriteLine],
-    written: usize,
 ) -> Tried
-    requires { (read + 300 ≤ length reads.old) × (written ≤ length writes.now) }
-    ensures comes { runs (one_step cpu) (record { rights = B.Board.rights board.now; bytes = B.Board.bytes board.now; writes = take written writes.now }) (record { reads = take read reads.entry.now; own = [] }) ≡ (result.outcome, record { reads = take result.used reads.exit.now; own = waiting result.buffer }) }
-    ensures stores { All (λ c. writable (B.Board.rights board.now c.0) ≡ true) (waiting result.buffer) }
-    ensures later { Later read reads.old result.used reads.new }
+    requires { objection_to (length reads.old) (length writes.now) machine.now ≡ Ok tt }
+    ensures comes { let found = state_at (moment B.Board.rights B.Board.bytes machine.now board.now reads.old writes.now) in
+        runs (one_step machine.now.cpu) (world (B.Board.rights board.now) found) (trail found)
+        ≡ (result.outcome, record { reads = take result.used reads.new; own = result.buffer }) }
+    ensures stores { All (λ c. writable (B.Board.rights board.now c.0) ≡ true) result.buffer }
+    ensures later { Later machine.now.read reads.old result.used reads.new }
 {
-    let writes = &writes[0..written];
-    let buffer = StoreBuffer::new();
     let mut bus = StepBus {
         board,
         reads,
-        used: read,
-        writes,
-        buffer,
+        used: machine.read,
+        writes: &writes[..machine.written],
+        buffer: StoreBuffer::new(),
     };
-    let outcome = on_bus(&mut bus, cpu);
+    let outcome = on_bus(&mut bus, machine.cpu);
+    let StepBus {
+        reads,
+        used,
+        buffer,
+        ..
+    } = bus;
+    // Why `reads` is taken out too: what the bus left in the sheet is known only of a loan that is let go by itself.
+    let _reads = reads;
     Tried {
         outcome,
-        used: bus.used,
-        buffer: bus.buffer,
+        used,
+        buffer,
     }
 }

@@ -1,6 +1,6 @@
 // A session that runs.
-ghost use Rattle.std.specs.Prelude.{◌≡◌, length};
-ghost use Rattle.session.specs.Calls.{state, attempted, ran, Comes};
+ghost use Rattle.std.specs.Prelude.{◌≡◌};
+ghost use Rattle.session.specs.Calls.{moment, attempted_at, ran_at, Comes};
 
 use super::attempt::{is_short, objection, try_step};
 use super::closed::Closed;
@@ -21,28 +21,19 @@ impl Running {
         board: &mut B,
         reads: &mut [ReadLine],
         writes: &mut [WriteLine],
-    ) -> Option<Refusal>
-        ensures { Comes (attempted (B.Board.rights board.old) (length reads.old) (length writes.old) (state self.old.machine reads.old writes.old (B.Board.bytes board.old))) result self.old.machine self.new.machine reads.old reads.new writes.old writes.new (B.Board.bytes board.new) (B.Board.rights board.old) (B.Board.rights board.new) }
+    ) -> Result<(), Refusal>
+        ensures { let found = moment B.Board.rights B.Board.bytes self.old.machine board.old reads.old writes.old in
+            let left = moment B.Board.rights B.Board.bytes self.new.machine board.new reads.new writes.new in
+            Comes (attempted_at found) result found left }
     {
-        let machine = self.machine;
-        let refusal = objection(&machine, reads.len(), writes.len());
-        if refusal.is_some() {
-            return refusal;
-        }
-        let written = machine.written;
-        let tried = try_step(machine.cpu, board, reads, machine.read, writes, written);
+        objection(&self.machine, reads.len(), writes.len())?;
+        let tried = try_step(&self.machine, board, reads, writes);
         self.machine.read = tried.used;
-        match tried.outcome {
-            Err(refusal) => Some(refusal),
-            Ok(cpu) => {
-                let step = machine.completed + 1;
-                let _ = tried.buffer.commit(board, writes, written, step);
-                self.machine.cpu = cpu;
-                self.machine.completed = step;
-                self.machine.written = written + tried.buffer.len();
-                None
-            }
-        }
+        self.machine.cpu = tried.outcome?;
+        self.machine.completed += 1;
+        let _ = tried.buffer.commit(board, writes, self.machine.written, self.machine.completed);
+        self.machine.written += tried.buffer.len();
+        Ok(())
     }
 
     // So many steps, up to the first refusal.
@@ -53,7 +44,9 @@ impl Running {
         reads: &mut [ReadLine],
         writes: &mut [WriteLine],
     ) -> Answer
-        ensures { Comes (ran (B.Board.rights board.old) (length reads.old) (length writes.old) count (state self.old.machine reads.old writes.old (B.Board.bytes board.old))) result self.old.machine self.new.machine reads.old reads.new writes.old writes.new (B.Board.bytes board.new) (B.Board.rights board.old) (B.Board.rights board.new) }
+        ensures { let found = moment B.Board.rights B.Board.bytes self.old.machine board.old reads.old writes.old in
+            let left = moment B.Board.rights B.Board.bytes self.new.machine board.new reads.new writes.new in
+            Comes (ran_at count found) result found left }
     {
         if is_short(&self.machine, reads.len(), writes.len()) {
             return Answer {
@@ -62,9 +55,11 @@ impl Running {
             };
         }
         for completed in 0..count {
-            let refusal = self.attempt(board, reads, writes);
-            if refusal.is_some() {
-                return Answer { completed, refusal };
+            if let Err(refusal) = self.attempt(board, reads, writes) {
+                return Answer {
+                    completed,
+                    refusal: Some(refusal),
+                };
             }
         }
         Answer {
@@ -80,7 +75,9 @@ impl Running {
         reads: &mut [ReadLine],
         writes: &mut [WriteLine],
     ) -> Answer
-        ensures { Comes (ran (B.Board.rights board.old) (length reads.old) (length writes.old) 1 (state self.old.machine reads.old writes.old (B.Board.bytes board.old))) result self.old.machine self.new.machine reads.old reads.new writes.old writes.new (B.Board.bytes board.new) (B.Board.rights board.old) (B.Board.rights board.new) }
+        ensures { let found = moment B.Board.rights B.Board.bytes self.old.machine board.old reads.old writes.old in
+            let left = moment B.Board.rights B.Board.bytes self.new.machine board.new reads.new writes.new in
+            Comes (ran_at 1 found) result found left }
     {
         self.run(1, board, reads, writes)
     }
@@ -89,8 +86,9 @@ impl Running {
     pub fn close(self) -> Closed
         ensures { result.machine ≡ self.machine }
     {
-        let Running { machine } = self;
-        Closed { machine }
+        Closed {
+            machine: self.machine,
+        }
     }
 }
 

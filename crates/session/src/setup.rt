@@ -9,6 +9,9 @@ use number::flags::Flags;
 use processor::Cpu;
 
 // Registers may be preset, and then it is started.
+//
+// Why three types, each with its own `machine`: `start` and `close` move a session from one to the next, so that a call
+// out of order does not build. One type with a parameter for the state would have the parameter in every contract.
 #[derive(Drop)]
 pub struct Setup {
     pub(crate) machine: Machine,
@@ -58,8 +61,7 @@ impl Setup {
     pub fn start(self, pc: u32) -> Running
         ensures { result.machine ≡ started pc self.machine }
     {
-        let Setup { machine } = self;
-        let mut machine = machine;
+        let mut machine = self.machine;
         machine.cpu.pc = pc;
         Running { machine }
     }

@@ -1,18 +1,21 @@
-use Rattle.std.proofs.Common.{sym}
+use Rattle.std.proofs.Common.{◌≡◌, Err, sym, rules}
 use Rattle.session.proofs.Steps.{objected, refused, accepted}
 use Rattle.session.proofs.running.Running.attempt.Goals as goal
 
-pub returns-then-is_some : goal.returns-then-is_some
-returns-then-is_some g c = objected _ _ _ _ _ _ c.objection-refusal.ensures (sym c.if-is_some.ensures)
+pub returns-in_err-objection : goal.returns-in_err-objection
+returns-in_err-objection g c =
+    let e : c.from_residual.result ≡ Err c.in_err-objection.field-0.0 = search rules in
+    objected _ _ _ c.in_err-objection.ensures e
 
-pub returns-in-Err : goal.returns-in-Err
-returns-in-Err g c =
+pub returns-in_err-self : goal.returns-in_err-self
+returns-in_err-self g c =
     let h = c.try_step-tried.ensures in
-    refused _ _ _ _ _ _ _ _ _ _ c.objection-refusal.ensures (sym c.if-is_some.ensures) h.comes h.later _ c.in-Err.is
+    let e : c.from_residual-in_err-self.result ≡ Err c.in_err-self.field-0.0 = search rules in
+    refused _ _ _ _ _ (sym c.in_ok-objection.ensures) h.comes h.later _ c.in_err-self.was _ e
 
-pub returns-in-Ok : goal.returns-in-Ok
-returns-in-Ok g c =
+pub returns : goal.returns
+returns g c =
     let h = c.try_step-tried.ensures in
     let k = c.commit.ensures in
-    accepted _ _ _ _ _ _ _ _ _ _ c.objection-refusal.ensures (sym c.if-is_some.ensures) h.comes h.later
-    _ c.len.ensures.count c.len.ensures.few _ c.in-Ok.is _ k.answer _ _ _ k.rights k.bytes k.lines c.commit.auto.writes
+    accepted _ _ _ _ _ (sym c.in_ok-objection.ensures) h.comes h.later
+    _ c.len.ensures.count c.len.ensures.few _ c.in_ok-self.was _ k.answer _ _ _ k.rights k.bytes k.lines c.commit.auto.writes
