@@ -32,8 +32,8 @@ module _ (rights : ℕ → Right) (P : State → Type 0) (by_try : (m n : ℕ) (
     go_keeps : (c : Call) (s : State) → P s → P (go_on rights c s).0.state
     go_keeps (Preset r v) s h = h
     go_keeps (Start pc) s h = h
-    go_keeps (Step m n) s h = ran_keeps m n 1 s h
-    go_keeps (Run k m n) s h = ran_keeps m n k s h
+    go_keeps (Step l) s h = ran_keeps l.reads l.writes 1 s h
+    go_keeps (Run k l) s h = ran_keeps l.reads l.writes k s h
     go_keeps Close s h = h
 
     did_keeps : (c : Call) (p : Phase) (s : State) → P s → P (did rights c p s).0.state

@@ -4,11 +4,10 @@ use Rattle.std.proofs.lemmas.List.{length-take-le, length-drop, take-append-le, 
 use Rattle.std.proofs.lemmas.Bool.Decides.{nat_tests}
 use Rattle.board.specs.declared.Right.{Right}
 use Rattle.bus.specs.declared.refusal.Refusal.TheVariants.{SheetTooShort}
-use Rattle.bus.specs.declared.line.ReadLine.{ReadLine}
-use Rattle.bus.specs.declared.line.WriteLine.{WriteLine}
-use Rattle.machine.specs.declared.held.Machine.{Machine}
 use Rattle.machine.specs.declared.answer.Answer.{Answer}
-use Rattle.session.specs.Calls.{State, state, short, attempted, tries, unless_short, ran, Comes}
+use Rattle.session.specs.Calls.{State, Moment, state_at, short, attempted, tries, unless_short, ran, ran_at, Comes}
+use Rattle.history.specs.declared.call.Lines.{Lines}
+use Rattle.history.specs.History.{lines_of, lent_lines, ran_beside}
 use Rattle.session.proofs.Steps.{stays}
 
 -- a sheet with its first i lines put back
@@ -40,56 +39,67 @@ ran_short : (R : ℕ → Right) (m n k : ℕ) (s : State) → short m n s.machin
 unfolding ran
 ran_short R m n k s e = ap (λ b. unless_short b s (tries (attempted R m n) k s)) e
 
-module _ (R R' : ℕ → Right) (k i j : ℕ) (s s' : Machine) (rs rs' : List ReadLine) (ws ws' : List WriteLine) (f f' : ℕ → ℕ) (a : Answer) (fit_reads : i ≤ length rs) (fit_writes : j ≤ length ws) where
+-- a moment of which a call sees the first lines of each sheet, and one with those lines put back
+abbrev pub front_of : Lines → Moment → Moment
+front_of l t = record { machine = t.machine; reads = take l.reads t.reads; writes = take l.writes t.writes; rights = t.rights; bytes = t.bytes }
+
+abbrev pub put_back : Lines → Moment → Moment → Moment
+put_back l t u = record { machine = u.machine; reads = u.reads ++ drop l.reads t.reads; writes = u.writes ++ drop l.writes t.writes; rights = u.rights; bytes = u.bytes }
+
+module _ (k : ℕ) (l : Lines) (t u : Moment) (a : Answer) (fit_reads : l.reads ≤ length t.reads) (fit_writes : l.writes ≤ length t.writes) where
   abbrev Part : Type 0
-  Part = Comes (ran R (length (take i rs)) (length (take j ws)) k (state s (take i rs) (take j ws) f)) a s s' (take i rs) rs' (take j ws) ws' f' R R'
+  Part = Comes (ran_at k (front_of l t)) a (front_of l t) u
 
   abbrev Whole : Type 0
-  Whole = Comes (ran R i j k (state s rs ws f)) a s s' rs (rs' ++ drop i rs) ws (ws' ++ drop j ws) f' R R'
+  Whole = Comes (ran_beside l k t) a t (put_back l t u)
 
-  lengths : ◌≡◌ {A = State → State × Answer} (ran R (length (take i rs)) (length (take j ws)) k) (ran R i j k)
-  lengths = λ t. ran R (length-take-le i rs fit_reads t) (length-take-le j ws fit_writes t) k
+  lengths : ◌≡◌ {A = State → State × Answer} (ran t.rights (length (take l.reads t.reads)) (length (take l.writes t.writes)) k) (ran t.rights l.reads l.writes k)
+  lengths = λ i. ran t.rights (length-take-le l.reads t.reads fit_reads i) (length-take-le l.writes t.writes fit_writes i) k
 
-  whole_short : short i j s ≡ true → Part → Whole
+  whole_short : short l.reads l.writes t.machine ≡ true → Part → Whole
   whole_short e h =
-      let z = state s (take i rs) (take j ws) f in
-      let o : ◌≡◌ {A = State × Answer} (ran R (length (take i rs)) (length (take j ws)) k z) (z, record { completed = 0; refusal = Some SheetTooShort }) = ap (λ t. t z) lengths ∙ ran_short R i j k z e in
-      let same : state s' rs' ws' f' ≡ z = h.left ∙ ap (λ q. q.0) o in
-      let m : s' ≡ s = ap (λ t. t.machine) same in
-      let reads : rs' ++ drop i rs ≡ rs = back_same i rs rs' fit_reads h.reads_length s'.read (ap (λ t. t.reads) same ∙ ap (λ q. take q.read (take i rs)) (sym m)) h.reads_past in
-      let writes : ws' ++ drop j ws ≡ ws = back_same j ws ws' fit_writes h.writes_length s'.written (ap (λ t. t.writes) same ∙ ap (λ q. take q.written (take j ws)) (sym m)) h.writes_past in
-      let w = ran_short R i j k (state s rs ws f) e in
-      let stay = stays R f s rs ws (ran R i j k (state s rs ws f)) a (w ∙ ap (λ (b : Answer). (state s rs ws f, b)) (sym (h.answer ∙ ap (λ q. q.1) o))) in
-      subst (λ (q : Machine × List ReadLine × List WriteLine × (ℕ → ℕ) × (ℕ → Right)). Comes (ran R i j k (state s rs ws f)) a s q.0 rs q.1 ws q.2 q.3 R q.4) (λ t. (sym m t, sym reads t, sym writes t, sym (ap (λ t. t.bytes) same) t, sym h.kept t)) stay
+      let z = state_at (front_of l t) in
+      let o : ◌≡◌ {A = State × Answer} (ran_at k (front_of l t)) (z, record { completed = 0; refusal = Some SheetTooShort }) = ap (λ f. f z) lengths ∙ ran_short t.rights l.reads l.writes k z e in
+      let same : state_at u ≡ z = h.left ∙ ap (λ q. q.0) o in
+      let m : u.machine ≡ t.machine = ap (λ s. s.machine) same in
+      let reads : u.reads ++ drop l.reads t.reads ≡ t.reads = back_same l.reads t.reads u.reads fit_reads h.reads_length u.machine.read (ap (λ s. s.reads) same ∙ ap (λ q. take q.read (take l.reads t.reads)) (sym m)) h.reads_past in
+      let writes : u.writes ++ drop l.writes t.writes ≡ t.writes = back_same l.writes t.writes u.writes fit_writes h.writes_length u.machine.written (ap (λ s. s.writes) same ∙ ap (λ q. take q.written (take l.writes t.writes)) (sym m)) h.writes_past in
+      let back : put_back l t u ≡ t = λ i. record { machine = m i; reads = reads i; writes = writes i; rights = h.kept i; bytes = (same i).bytes } in
+      let w = ran_short t.rights l.reads l.writes k (state_at t) e in
+      let stay = stays t (ran_beside l k t) a (w ∙ ap (λ (b : Answer). (state_at t, b)) (sym (h.answer ∙ ap (λ q. q.1) o))) in
+      subst (λ v. Comes (ran_beside l k t) a t v) (sym back) stay
 
-  whole_long : short i j s ≡ false → Part → Whole
+  whole_long : short l.reads l.writes t.machine ≡ false → Part → Whole
   whole_long e h =
-      let lr : s.read ≤ i = grind (arith, nat_tests) in
-      let lw : s.written ≤ j = grind (arith, nat_tests) in
-      let o : ran R (length (take i rs)) (length (take j ws)) k (state s (take i rs) (take j ws) f) ≡ ran R i j k (state s rs ws f) =
-      (λ t. lengths t (record { machine = s; reads = take-take s.read i rs lr t; writes = take-take s.written j ws lw t; bytes = f })) in
-      let mr : s'.read ≤ i = omega (arith, h.reads_within (omega (arith, length-take-le i rs fit_reads)), length-take-le i rs fit_reads) in
-      let mw : s'.written ≤ j = omega (arith, h.writes_within (omega (arith, length-take-le j ws fit_writes)), length-take-le j ws fit_writes) in
+      let lr : t.machine.read ≤ l.reads = grind (arith, nat_tests) in
+      let lw : t.machine.written ≤ l.writes = grind (arith, nat_tests) in
+      let o : ran_at k (front_of l t) ≡ ran_beside l k t =
+      (λ i. lengths i (record { machine = t.machine; reads = take-take t.machine.read l.reads t.reads lr i; writes = take-take t.machine.written l.writes t.writes lw i; bytes = t.bytes })) in
+      let mr : u.machine.read ≤ l.reads = omega (arith, h.reads_within (omega (arith, length-take-le l.reads t.reads fit_reads)), length-take-le l.reads t.reads fit_reads) in
+      let mw : u.machine.written ≤ l.writes = omega (arith, h.writes_within (omega (arith, length-take-le l.writes t.writes fit_writes)), length-take-le l.writes t.writes fit_writes) in
       record {
         answer = h.answer ∙ ap (λ q. q.1) o;
-        left = (λ t. record { machine = s'; reads = back_used i rs rs' fit_reads h.reads_length s'.read mr t; writes = back_used j ws ws' fit_writes h.writes_length s'.written mw t; bytes = f' }) ∙ (h.left ∙ ap (λ q. q.0) o);
+        left = (λ i. record { machine = u.machine; reads = back_used l.reads t.reads u.reads fit_reads h.reads_length u.machine.read mr i; writes = back_used l.writes t.writes u.writes fit_writes h.writes_length u.machine.written mw i; bytes = u.bytes }) ∙ (h.left ∙ ap (λ q. q.0) o);
         kept = h.kept;
-        reads_length = back_length i rs rs' fit_reads h.reads_length;
-        writes_length = back_length j ws ws' fit_writes h.writes_length;
+        reads_length = back_length l.reads t.reads u.reads fit_reads h.reads_length;
+        writes_length = back_length l.writes t.writes u.writes fit_writes h.writes_length;
         reads_more = h.reads_more;
         writes_more = h.writes_more;
         reads_within = λ _. omega arith;
         writes_within = λ _. omega arith;
-        reads_past = back_past i rs rs' fit_reads h.reads_length s'.read mr h.reads_past;
-        writes_past = back_past j ws ws' fit_writes h.writes_length s'.written mw h.writes_past;
+        reads_past = back_past l.reads t.reads u.reads fit_reads h.reads_length u.machine.read mr h.reads_past;
+        writes_past = back_past l.writes t.writes u.writes fit_writes h.writes_length u.machine.written mw h.writes_past;
       }
 
-  by_short : (b : Bool) → short i j s ≡ b → Part → Whole
+  by_short : (b : Bool) → short l.reads l.writes t.machine ≡ b → Part → Whole
   by_short true e h = whole_short e h
   by_short false e h = whole_long e h
 
--- the lengths as the code has them
-pub on_whole : (R R' : ℕ → Right) (m n k i j : ℕ) (s s' : Machine) (rs rs' : List ReadLine) (ws ws' : List WriteLine) (f f' : ℕ → ℕ) (a : Answer) → i ≡ min m (length rs) → j ≡ min n (length ws) → Comes (ran R (length (take i rs)) (length (take j ws)) k (state s (take i rs) (take j ws) f)) a s s' (take i rs) rs' (take j ws) ws' f' R R' → Comes (ran R (min m (length rs)) (min n (length ws)) k (state s rs ws f)) a s s' rs (rs' ++ drop i rs) ws (ws' ++ drop j ws) f' R R'
-on_whole R R' m n k i j s s' rs rs' ws ws' f f' a p q h =
-    let w = by_short R R' k i j s s' rs rs' ws ws' f f' a (omega arith) (omega arith) (short i j s) refl h in
-    subst (λ (z : ℕ × ℕ). Comes (ran R z.0 z.1 k (state s rs ws f)) a s s' rs (rs' ++ drop i rs) ws (ws' ++ drop j ws) f' R R') (λ t. (p t, q t)) w
+  on_whole : Part → Whole
+  on_whole h = by_short (short l.reads l.writes t.machine) refl h
+
+-- the numbers of lines as the code has them
+pub on_lent : (k i j : ℕ) (l : Lines) (t u : Moment) (a : Answer) → i ≡ min l.reads (length t.reads) → j ≡ min l.writes (length t.writes) → Comes (ran_at k (front_of (record { reads = i; writes = j }) t)) a (front_of (record { reads = i; writes = j }) t) u → Comes (ran_beside (lent_lines (lines_of t) l) k t) a t (put_back (record { reads = i; writes = j }) t u)
+on_lent k i j l t u a p q h =
+    let got : Lines = record { reads = i; writes = j } in
+    subst (λ (m : Lines). Comes (ran_beside m k t) a t (put_back got t u)) (λ z. record { reads = p z; writes = q z }) (on_whole k got t u a (omega arith) (omega arith) h)

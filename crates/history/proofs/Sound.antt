@@ -1,5 +1,5 @@
 -- What the sheets tell of the board.
-use Rattle.std.proofs.Common.{◌≡◌, ℕ, ◌+◌, Bool, true, false, cond, ◌||◌, eqb, List, [], ◌∷◌, length, Some, None, Ok, Err, Option, Result, sym, refl, ap, ◌∙◌, le_refl, arith}
+use Rattle.std.proofs.Common.{◌≡◌, ℕ, ◌+◌, Bool, true, false, cond, ◌||◌, eqb, List, [], ◌∷◌, length, Ok, Err, Result, sym, refl, ap, ◌∙◌, le_refl, arith}
 use Rattle.std.proofs.lemmas.Bool.{or_parts}
 use Rattle.std.proofs.lemmas.Bool.Decides.{nat_tests}
 use Rattle.board.specs.declared.Right.{Right}
@@ -70,9 +70,9 @@ module _ (rights : ℕ → Right) (f : ℕ → ℕ) where
         ∙ sym (latest_append of_write (λ l. l.byte) a (f a) s.writes (write_lines (s.machine.completed + 1) t.own)));
   }
 
-  sound_stepped : (s : State) (c : Option Refusal) → Sound f s → Sound f (stepped rights s c).0
-  sound_stepped s (Some e) h = h
-  sound_stepped s None h = let o = runs (one_step s.machine.cpu) (world rights s) (trail s) in sound_concluded s o.0 o.1 h (held_after s h) (storable s)
+  sound_stepped : (s : State) (c : Result (Unit {0}) Refusal) → Sound f s → Sound f (stepped rights s c).0
+  sound_stepped s (Err e) h = h
+  sound_stepped s (Ok x) h = let o = runs (one_step s.machine.cpu) (world rights s) (trail s) in sound_concluded s o.0 o.1 h (held_after s h) (storable s)
 
   pub sound_try : (m n : ℕ) (s : State) → Sound f s → Sound f (attempted rights m n s).0
   unfolding attempted

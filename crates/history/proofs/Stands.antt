@@ -34,5 +34,5 @@ pub stands : (rights : ℕ → Right) (f : ℕ → ℕ) (cs : List Call) → Sta
 stands rights f cs = record {
   written = λ a _. (sound rights f cs).board a;
   replayed = λ rights' g e h. subst (λ r. Alike (reached r g cs) (reached rights f cs) (answered r g cs) (answered rights f cs)) (sym (same_rights rights' rights e)) (alike rights f g cs h);
-  summed = λ m n js ks e. after_append rights cs (runs_of m n js) (opening f) ∙ (equal_sums rights m n (reached rights f cs) js ks e ∙ sym (after_append rights cs (runs_of m n ks) (opening f)));
+  summed = λ l js ks e. after_append rights cs (runs_of l js) (opening f) ∙ (equal_sums rights l (reached rights f cs) js ks e ∙ sym (after_append rights cs (runs_of l ks) (opening f)));
 }

@@ -31,9 +31,9 @@ module _ (rights : ℕ → Right) (xs : List ReadLine) where
   from_concluded s (Err e) t g = g
   from_concluded s (Ok c) t g = g
 
-  from_stepped : (s : State) (c : Option Refusal) → From s → From (stepped rights s c).0
-  from_stepped s (Some e) g = g
-  from_stepped s None g = let o = runs (one_step s.machine.cpu) (world rights s) (trail s) in from_concluded s o.0 o.1 (extends_trans xs s.reads o.1.reads g (grows (one_step s.machine.cpu) (world rights s) (trail s)).reads)
+  from_stepped : (s : State) (c : Result (Unit {0}) Refusal) → From s → From (stepped rights s c).0
+  from_stepped s (Err e) g = g
+  from_stepped s (Ok x) g = let o = runs (one_step s.machine.cpu) (world rights s) (trail s) in from_concluded s o.0 o.1 (extends_trans xs s.reads o.1.reads g (grows (one_step s.machine.cpu) (world rights s) (trail s)).reads)
 
   from_try : (m n : ℕ) (s : State) → From s → From (attempted rights m n s).0
   unfolding attempted
@@ -88,7 +88,7 @@ module _ (rights : ℕ → Right) (f g : ℕ → ℕ) where
   agree s b ys h k p q = λ a n. agree_by s b ys h k p q a (names of_write a s.writes) refl n
 
   -- outcomes that differ in the board alone
-  abbrev Same : State × Option Refusal → State × Option Refusal → Type 0
+  abbrev Same : State × Result (Unit {0}) Refusal → State × Result (Unit {0}) Refusal → Type 0
   Same o q = (b : ℕ → ℕ) × (q ≡ (with_board b o.0, o.1))
 
   concluded_same : (s : State) (b : ℕ → ℕ) (r : Result Cpu Refusal) (t : Trail) → Same (concluded rights s r t) (concluded rights (with_board b s) r t)
@@ -99,9 +99,9 @@ module _ (rights : ℕ → Right) (f g : ℕ → ℕ) where
   concluded_reads s (Err e) t h = h
   concluded_reads s (Ok c) t h = h
 
-  stepped_same : (s : State) (b : ℕ → ℕ) (c : Option Refusal) → Sound f s → Sound g (with_board b s) → Told (stepped rights s c).0.reads → Same (stepped rights s c) (stepped rights (with_board b s) c)
-  stepped_same s b (Some e) h k n = (b, refl)
-  stepped_same s b None h k n =
+  stepped_same : (s : State) (b : ℕ → ℕ) (c : Result (Unit {0}) Refusal) → Sound f s → Sound g (with_board b s) → Told (stepped rights s c).0.reads → Same (stepped rights s c) (stepped rights (with_board b s) c)
+  stepped_same s b (Err e) h k n = (b, refl)
+  stepped_same s b (Ok x) h k n =
       let p = one_step s.machine.cpu in
       let o = runs p (world rights s) (trail s) in
       let e = replays b p (world rights s) (trail s) (agree s b o.1.reads h k (held_after rights f s h) (concluded_reads s o.0 o.1 n)) in
@@ -162,8 +162,8 @@ module _ (rights : ℕ → Right) (f g : ℕ → ℕ) where
   go_twin : (c : Call) (s t : State) → Twin f g s t → Told (go_on rights c s).0.state.reads → Paired (go_on rights c s) (go_on rights c t)
   go_twin (Preset r v) s t w h = (w, refl, refl)
   go_twin (Start pc) s t w h = (w, refl, refl)
-  go_twin (Step m n) s t w h = ran_paired m n 1 s t w h
-  go_twin (Run k m n) s t w h = ran_paired m n k s t w h
+  go_twin (Step l) s t w h = ran_paired l.reads l.writes 1 s t w h
+  go_twin (Run k l) s t w h = ran_paired l.reads l.writes k s t w h
   go_twin Close s t w h = (w, refl, refl)
 
   did_twin : (c : Call) (p : Phase) (s t : State) → Twin f g s t → Told (did rights c p s).0.state.reads → Paired (did rights c p s) (did rights c p t)

@@ -3,17 +3,18 @@ use Rattle.std.specs.Prelude.{◌≡◌, ℕ, ◌+◌, min, List, [], ◌∷◌,
 use Rattle.board.specs.declared.Right.{Right}
 use Rattle.board.specs.declared.Right.TheVariants.{NoAccess}
 use Rattle.bus.specs.declared.refusal.Refusal.{Refusal}
-use Rattle.bus.specs.declared.line.ReadLine.{ReadLine}
 use Rattle.bus.specs.declared.line.WriteLine.{WriteLine}
 use Rattle.bus.specs.Sheets.{latest, All}
 use Rattle.machine.specs.declared.held.Machine.{Machine}
+use Rattle.machine.specs.declared.answer.Answer.{Answer}
+use Rattle.history.specs.declared.call.Lines.{Lines}
 use Rattle.history.specs.declared.call.Call.{Call}
 use Rattle.history.specs.declared.call.Call.TheVariants.{Preset, Start, Step, Run, Close}
 use Rattle.history.specs.declared.call.Reply.{Reply}
 use Rattle.history.specs.declared.call.Reply.TheVariants.{Accepted, Refused, Ran, OutOfPlace}
 use Rattle.history.specs.declared.list.Session.{Session}
 use Rattle.history.specs.declared.list.Session.TheVariants.{Setup, Running, Closed}
-use Rattle.session.specs.Calls.{State, state, opened, preset_to, preset_answer, started, ran, Comes}
+use Rattle.session.specs.Calls.{State, Moment, state_at, opened, preset_to, preset_answer, started, ran, Comes}
 
 -- ---- one call after another
 
@@ -44,16 +45,16 @@ replied (Err e) = Refused e
 abbrev pub set_up : Call → Machine → Phase × Machine × Reply
 set_up (Preset r v) m = (setting_up, preset_to r v m, replied (preset_answer r))
 set_up (Start pc) m = (running, started pc m, Accepted)
-set_up (Step i j) m = (setting_up, m, OutOfPlace)
-set_up (Run k i j) m = (setting_up, m, OutOfPlace)
+set_up (Step l) m = (setting_up, m, OutOfPlace)
+set_up (Run k l) m = (setting_up, m, OutOfPlace)
 set_up Close m = (setting_up, m, OutOfPlace)
 
 -- what it comes to from the start on
 abbrev pub go_on : (ℕ → Right) → Call → State → Point × Reply
 go_on rights (Preset r v) s = (at running s, OutOfPlace)
 go_on rights (Start pc) s = (at running s, OutOfPlace)
-go_on rights (Step m n) s = (at running (ran rights m n 1 s).0, Ran (ran rights m n 1 s).1)
-go_on rights (Run k m n) s = (at running (ran rights m n k s).0, Ran (ran rights m n k s).1)
+go_on rights (Step l) s = (at running (ran rights l.reads l.writes 1 s).0, Ran (ran rights l.reads l.writes 1 s).1)
+go_on rights (Run k l) s = (at running (ran rights l.reads l.writes k s).0, Ran (ran rights l.reads l.writes k s).1)
 go_on rights Close s = (at closed s, Accepted)
 
 -- what a call comes to
@@ -71,7 +72,7 @@ after rights (c ∷ cs) p = ((after rights cs (did rights c p.phase p.state).0).
 
 -- a session at its opening, beside unused sheets and a board that holds the bytes f
 abbrev pub opening : (ℕ → ℕ) → Point
-opening f = at setting_up (state opened [] [] f)
+opening f = at setting_up (record { machine = opened; reads = []; writes = []; bytes = f })
 
 -- where a history leads, on a board with those rights that held f at the start, and what its calls answered
 abbrev pub reached : (ℕ → Right) → (ℕ → ℕ) → List Call → Point
@@ -92,10 +93,10 @@ pub record Alike (p q : Point) (xs ys : List Reply) : Type 0 where
   pub reads : p.state.reads ≡ q.state.reads
   pub writes : p.state.writes ≡ q.state.writes
 
--- runs of so many steps each, beside a reads sheet of m lines and a writes sheet of n
-abbrev pub runs_of : ℕ → ℕ → List ℕ → List Call
-runs_of m n [] = []
-runs_of m n (k ∷ ks) = Run k m n ∷ runs_of m n ks
+-- runs of so many steps each, beside sheets of so many lines
+abbrev pub runs_of : Lines → List ℕ → List Call
+runs_of l [] = []
+runs_of l (k ∷ ks) = Run k l ∷ runs_of l ks
 
 abbrev pub sum : List ℕ → ℕ
 sum [] = 0
@@ -109,7 +110,7 @@ pub record Stands (rights : ℕ → Right) (f : ℕ → ℕ) (calls : List Call)
   -- address, answer the same and leave the same session and the same used lines on both sheets
   pub replayed : (rights' : ℕ → Right) (g : ℕ → ℕ) → ((a : ℕ) → rights' a ≡ rights a) → All (λ l. g l.address ≡ l.byte) (reached rights f calls).state.reads → Alike (reached rights' g calls) (reached rights f calls) (answered rights' g calls) (answered rights f calls)
   -- from here, with the sheets' lengths kept, any two lists of runs with equal sums leave the same session, used lines and board
-  pub summed : (m n : ℕ) (js ks : List ℕ) → sum js ≡ sum ks → reached rights f (calls ++ runs_of m n js) ≡ reached rights f (calls ++ runs_of m n ks)
+  pub summed : (l : Lines) (js ks : List ℕ) → sum js ≡ sum ks → reached rights f (calls ++ runs_of l js) ≡ reached rights f (calls ++ runs_of l ks)
 
 -- ---- what code leaves
 
@@ -123,28 +124,43 @@ machine_of (Setup s) = s.machine
 machine_of (Running s) = s.machine
 machine_of (Closed s) = s.machine
 
--- where a session stands beside two sheets and a board
-abbrev pub point : Session → List ReadLine → List WriteLine → (ℕ → ℕ) → Point
-point s reads writes f = at (phase_of s) (state (machine_of s) reads writes f)
+-- where a session in a phase stands at a moment
+abbrev pub point : Phase → Moment → Point
+point p t = at p (state_at t)
+
+-- how many lines the sheets have
+abbrev pub lines_of : Moment → Lines
+lines_of t = record { reads = length t.reads; writes = length t.writes }
 
 -- a call gets no more lines of a sheet than there are
-abbrev pub lent : ℕ → ℕ → Call → Call
-lent m n (Preset r v) = Preset r v
-lent m n (Start pc) = Start pc
-lent m n (Step i j) = Step (min i m) (min j n)
-lent m n (Run k i j) = Run k (min i m) (min j n)
-lent m n Close = Close
+abbrev pub lent_lines : Lines → Lines → Lines
+lent_lines all l = record { reads = min l.reads all.reads; writes = min l.writes all.writes }
 
--- the calls of a list that are carried out, where there is room for so many replies, beside sheets of m and n lines
-abbrev pub given_calls : List Call → ℕ → ℕ → ℕ → List Call
-given_calls calls replies m n = map (lent m n) (take (min (length calls) replies) calls)
+abbrev pub lent : Lines → Call → Call
+lent all (Preset r v) = Preset r v
+lent all (Start pc) = Start pc
+lent all (Step l) = Step (lent_lines all l)
+lent all (Run k l) = Run k (lent_lines all l)
+lent all Close = Close
 
--- calls on a session s, two sheets and a board left just what the outcome o says: the answer, and the point, with the session s'. Rights and
--- lengths are as they were, used lines are only added and stay within the sheets, and lines past them are untouched
-pub record Follows {R : Type 0} (o : Point × R) (r : R) (s s' : Session) (reads reads' : List ReadLine) (writes writes' : List WriteLine) (f : ℕ → ℕ) (rights rights' : ℕ → Right) : Type 0 where
+-- a run of so many steps beside so many lines, that finds a session at a moment
+abbrev pub ran_beside : Lines → ℕ → Moment → State × Answer
+ran_beside l count t = ran t.rights l.reads l.writes count (state_at t)
+
+-- what a call comes to that finds a session in a phase at a moment
+abbrev pub did_at : Moment → Phase → Call → Point × Reply
+did_at t p c = did t.rights (lent (lines_of t) c) p (state_at t)
+
+-- the first so many calls of a list, as they are carried out from a moment on
+abbrev pub given_calls : ℕ → List Call → Moment → List Call
+given_calls count calls t = map (lent (lines_of t)) (take count calls)
+
+-- calls that found a session at the moment t, and left it in the phase p at u, did just what the outcome o says: the answer r, and the point.
+-- Rights and lengths are as they were, used lines are only added and stay within the sheets, and lines past them are untouched
+pub record Follows {R : Type 0} (o : Point × R) (r : R) (p : Phase) (t u : Moment) : Type 0 where
   pub answer : r ≡ o.1
-  pub phase : phase_of s' ≡ o.0.phase
-  pub comes : Comes {R = Unit {0}} (o.0.state, tt) tt (machine_of s) (machine_of s') reads reads' writes writes' f rights rights'
+  pub phase : p ≡ o.0.phase
+  pub comes : Comes {R = Unit {0}} (o.0.state, tt) tt t u
 
 -- after the history h, on a board that held f at the start, the calls led to the point q and answered rs, and the statement stands there
 pub record Recounts (rights : ℕ → Right) (f : ℕ → ℕ) (h calls : List Call) (q : Point) (rs : List Reply) : Type 0 where

@@ -53,7 +53,7 @@ pub record Job : Type 0 where
 
 -- the job's calls, beside sheets of 600 lines
 abbrev pub calls_of : Job → List Call
-calls_of j = map (λ p. Preset p.0 p.1) j.presets ++ (Start j.pc ∷ replicate (length j.answers) (Step 600 600))
+calls_of j = map (λ p. Preset p.0 p.1) j.presets ++ (Start j.pc ∷ replicate (length j.answers) (Step (record { reads = 600; writes = 600 })))
 
 -- the number and the place that a step answered
 abbrev pub told_by : Reply → List (ℕ × ℕ)

@@ -6,7 +6,7 @@ mod list;
 mod vouch;
 mod worked;
 
-pub use call::{Call, Reply};
+pub use call::{Call, Lines, Reply};
 pub use list::Session;
 pub use vouch::{closed_vouched, running_vouched};
 pub use worked::worked_steps_agree;

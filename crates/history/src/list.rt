@@ -1,11 +1,10 @@
 // Calls given as values, carried out one after another.
 ghost use Rattle.std.specs.Prelude.{◌≡◌, ℕ, min, List, length, take, drop};
-ghost use Rattle.session.specs.Calls.{state, opened, ran, Comes};
-ghost use Rattle.history.specs.History.{setting_up, set_up, go_on as go_on_is, did, after, reached, phase_of, machine_of, point, lent, given_calls, Follows, Recounts};
+ghost use Rattle.session.specs.Calls.{opened, moment, state_at, Comes};
+ghost use Rattle.history.specs.History.{setting_up, set_up, go_on as go_on_is, did_at, after, reached, phase_of, machine_of, point, lines_of, lent, lent_lines, ran_beside, given_calls, Follows, Recounts};
 ghost use Rattle.history.specs.declared.call.Call.{Call as HistoryCall};
-ghost use Rattle.history.specs.declared.list.Session.TheVariants.{Running as RunningSession};
 
-use super::call::{Call, Reply};
+use super::call::{Call, Lines, Reply};
 use board::Board;
 use bus::{ReadLine, WriteLine};
 use machine::{Answer, Machine, Questions};
@@ -20,36 +19,36 @@ pub enum Session {
 }
 
 // A run beside the first lines of each sheet, or all of them where there are not so many.
-fn run_part<B: Board>(
+fn run_beside<B: Board>(
     running: &mut Running,
     count: u32,
-    m: usize,
-    n: usize,
+    lines: Lines,
     board: &mut B,
     reads: &mut [ReadLine],
     writes: &mut [WriteLine],
 ) -> Answer
-    ensures { Comes (ran (B.Board.rights board.old) (min m (length reads.old)) (min n (length writes.old)) count (state running.old.machine reads.old writes.old (B.Board.bytes board.old))) result running.old.machine running.new.machine reads.old reads.new writes.old writes.new (B.Board.bytes board.new) (B.Board.rights board.old) (B.Board.rights board.new) }
+    ensures { let found = moment B.Board.rights B.Board.bytes running.old.machine board.old reads.old writes.old in
+        let left = moment B.Board.rights B.Board.bytes running.new.machine board.new reads.new writes.new in
+        Comes (ran_beside (lent_lines (lines_of found) lines) count found) result found left }
 {
-    let m = m.min(reads.len());
-    let n = n.min(writes.len());
-    running.run(count, board, &mut reads[0..m], &mut writes[0..n])
+    let m = lines.reads.min(reads.len());
+    let n = lines.writes.min(writes.len());
+    running.run(count, board, &mut reads[..m], &mut writes[..n])
 }
 
 // What a call comes to before the start.
-fn set_up(setup: Setup, call: Call) -> (Session, Reply)
+fn set_up(mut setup: Setup, call: Call) -> (Session, Reply)
     ensures phase { phase_of result.0 ≡ (set_up call setup.machine).0 }
     ensures machine { machine_of result.0 ≡ (set_up call setup.machine).1 }
     ensures reply { result.1 ≡ (set_up call setup.machine).2 }
 {
-    let mut setup = setup;
     match call {
-        Call::Preset(n, value) => match setup.preset(n, value) {
-            Ok(()) => (Session::Setup(setup), Reply::Accepted),
-            Err(refusal) => (Session::Setup(setup), Reply::Refused(refusal)),
-        },
+        Call::Preset(n, value) => {
+            let reply = setup.preset(n, value).into();
+            (Session::Setup(setup), reply)
+        }
         Call::Start(pc) => (Session::Running(setup.start(pc)), Reply::Accepted),
-        Call::Step(_, _) | Call::Run(_, _, _) | Call::Close => {
+        Call::Step(_) | Call::Run(_, _) | Call::Close => {
             (Session::Setup(setup), Reply::OutOfPlace)
         }
     }
@@ -57,22 +56,23 @@ fn set_up(setup: Setup, call: Call) -> (Session, Reply)
 
 // What it comes to from the start on.
 fn go_on<B: Board>(
-    running: Running,
+    mut running: Running,
     call: Call,
     board: &mut B,
     reads: &mut [ReadLine],
     writes: &mut [WriteLine],
 ) -> (Session, Reply)
-    ensures { Follows (go_on_is (B.Board.rights board.old) (lent (length reads.old) (length writes.old) call) (state running.machine reads.old writes.old (B.Board.bytes board.old))) result.1 (RunningSession running) result.0 reads.old reads.new writes.old writes.new (B.Board.bytes board.new) (B.Board.rights board.old) (B.Board.rights board.new) }
+    ensures { let found = moment B.Board.rights B.Board.bytes running.machine board.old reads.old writes.old in
+        let left = moment B.Board.rights B.Board.bytes (machine_of result.0) board.new reads.new writes.new in
+        Follows (go_on_is found.rights (lent (lines_of found) call) (state_at found)) result.1 (phase_of result.0) found left }
 {
-    let mut running = running;
     match call {
-        Call::Step(m, n) => {
-            let answer = run_part(&mut running, 1, m, n, board, reads, writes);
+        Call::Step(lines) => {
+            let answer = run_beside(&mut running, 1, lines, board, reads, writes);
             (Session::Running(running), Reply::Ran(answer))
         }
-        Call::Run(count, m, n) => {
-            let answer = run_part(&mut running, count, m, n, board, reads, writes);
+        Call::Run(count, lines) => {
+            let answer = run_beside(&mut running, count, lines, board, reads, writes);
             (Session::Running(running), Reply::Ran(answer))
         }
         Call::Close => (Session::Closed(running.close()), Reply::Accepted),
@@ -97,7 +97,9 @@ impl Session {
         reads: &mut [ReadLine],
         writes: &mut [WriteLine],
     ) -> (Session, Reply)
-        ensures { Follows (did (B.Board.rights board.old) (lent (length reads.old) (length writes.old) call) (phase_of self) (state (machine_of self) reads.old writes.old (B.Board.bytes board.old))) result.1 self result.0 reads.old reads.new writes.old writes.new (B.Board.bytes board.new) (B.Board.rights board.old) (B.Board.rights board.new) }
+        ensures { let found = moment B.Board.rights B.Board.bytes (machine_of self) board.old reads.old writes.old in
+            let left = moment B.Board.rights B.Board.bytes (machine_of result.0) board.new reads.new writes.new in
+            Follows (did_at found (phase_of self) call) result.1 (phase_of result.0) found left }
     {
         match self {
             Session::Setup(setup) => set_up(setup, call),
@@ -115,14 +117,22 @@ impl Session {
         writes: &mut [WriteLine],
         replies: &mut [Reply],
     ) -> Session
-        ensures follows { Follows (after (B.Board.rights board.old) (given_calls calls.now (length replies.old) (length reads.old) (length writes.old)) (point self reads.old writes.old (B.Board.bytes board.old))) (take (min (length calls.now) (length replies.old)) replies.new) self result reads.old reads.new writes.old writes.new (B.Board.bytes board.new) (B.Board.rights board.old) (B.Board.rights board.new) }
-        ensures rest { drop (min (length calls.now) (length replies.old)) replies.new ≡ drop (min (length calls.now) (length replies.old)) replies.old }
-        ensures recounts { (f : ℕ → ℕ) (h : List HistoryCall) → reached (B.Board.rights board.old) f h ≡ point self reads.old writes.old (B.Board.bytes board.old) → Recounts (B.Board.rights board.old) f h (given_calls calls.now (length replies.old) (length reads.old) (length writes.old)) (point result reads.new writes.new (B.Board.bytes board.new)) (take (min (length calls.now) (length replies.old)) replies.new) }
+        ensures follows { let found = moment B.Board.rights B.Board.bytes (machine_of self) board.old reads.old writes.old in
+            let left = moment B.Board.rights B.Board.bytes (machine_of result) board.new reads.new writes.new in
+            let count = min (length calls.now) (length replies.old) in
+            Follows (after found.rights (given_calls count calls.now found) (point (phase_of self) found)) (take count replies.new) (phase_of result) found left }
+        ensures rest { let count = min (length calls.now) (length replies.old) in
+            drop count replies.new ≡ drop count replies.old }
+        ensures recounts { let found = moment B.Board.rights B.Board.bytes (machine_of self) board.old reads.old writes.old in
+            let left = moment B.Board.rights B.Board.bytes (machine_of result) board.new reads.new writes.new in
+            let count = min (length calls.now) (length replies.old) in
+            (f : ℕ → ℕ) (h : List HistoryCall) → reached found.rights f h ≡ point (phase_of self) found → Recounts found.rights f h (given_calls count calls.now found) (point (phase_of result) left) (take count replies.new) }
     {
         let mut session = self;
         let count = calls.len().min(replies.len());
-        for i in 0..count {
-            let (next, reply) = session.call(calls[i], board, reads, writes);
+        // Why an index for the replies: of a slice that a zip writes through, the prover knows no longer what it holds.
+        for (i, call) in calls[..count].iter().enumerate() {
+            let (next, reply) = session.call(*call, board, reads, writes);
             session = next;
             replies[i] = reply;
         }

@@ -1,8 +1,8 @@
 // The session statement, for whoever makes the calls one by one.
 ghost use Rattle.std.specs.Prelude.{◌≡◌, ℕ, List};
-ghost use Rattle.session.specs.Calls.{state};
+ghost use Rattle.session.specs.Calls.{moment};
 ghost use Rattle.history.specs.declared.call.Call.{Call};
-ghost use Rattle.history.specs.History.{running, closed, at, reached, Stands};
+ghost use Rattle.history.specs.History.{running, closed, point, reached, Stands};
 
 use board::Board;
 use bus::{ReadLine, WriteLine};
@@ -15,7 +15,8 @@ pub fn running_vouched<B: Board>(
     reads: &[ReadLine],
     writes: &[WriteLine],
 )
-    ensures { (f : ℕ → ℕ) (h : List Call) → reached (B.Board.rights board.now) f h ≡ at running (state session.now.machine reads.now writes.now (B.Board.bytes board.now)) → Stands (B.Board.rights board.now) f h }
+    ensures { let found = moment B.Board.rights B.Board.bytes session.now.machine board.now reads.now writes.now in
+        (f : ℕ → ℕ) (h : List Call) → reached found.rights f h ≡ point running found → Stands found.rights f h }
 {}
 
 // The statement stands of every history that leads to where a session stood when it was closed.
@@ -25,5 +26,6 @@ pub fn closed_vouched<B: Board>(
     reads: &[ReadLine],
     writes: &[WriteLine],
 )
-    ensures { (f : ℕ → ℕ) (h : List Call) → reached (B.Board.rights board.now) f h ≡ at closed (state session.now.machine reads.now writes.now (B.Board.bytes board.now)) → Stands (B.Board.rights board.now) f h }
+    ensures { let found = moment B.Board.rights B.Board.bytes session.now.machine board.now reads.now writes.now in
+        (f : ℕ → ℕ) (h : List Call) → reached found.rights f h ≡ point closed found → Stands found.rights f h }
 {}

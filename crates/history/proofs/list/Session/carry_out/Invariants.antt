@@ -1,8 +1,11 @@
-use Rattle.std.proofs.Common.{◌≡◌, map, length, take, drop}
-use Rattle.history.specs.History.{after, point, lent, Follows}
+use Rattle.std.proofs.Common.{◌≡◌, take, drop}
+use Rattle.session.specs.Calls.{moment}
+use Rattle.history.specs.History.{after, phase_of, machine_of, point, given_calls, Follows}
 use Rattle.history.proofs.list.Session.carry_out.Given as goal
 
 abbrev pub invariant-loop-i : goal.invariant-loop-i
 invariant-loop-i g l =
-    Follows (after (g.B.Board.rights l.initial.board) (map (lent (length l.initial.reads) (length l.initial.writes)) (take l.i l.calls)) (point l.initial.session l.initial.reads l.initial.writes (g.B.Board.bytes l.initial.board))) (take l.i l.replies) l.initial.session l.session l.initial.reads l.reads l.initial.writes l.writes (g.B.Board.bytes l.board) (g.B.Board.rights l.initial.board) (g.B.Board.rights l.board)
+    let found = moment g.B.Board.rights g.B.Board.bytes (machine_of l.initial.session) l.initial.board l.initial.reads l.initial.writes in
+    let now = moment g.B.Board.rights g.B.Board.bytes (machine_of l.session) l.board l.reads l.writes in
+    Follows (after found.rights (given_calls l.i l.calls found) (point (phase_of l.initial.session) found)) (take l.i l.replies) (phase_of l.session) found now
     × (drop l.i l.replies ≡ drop l.i l.initial.replies)
