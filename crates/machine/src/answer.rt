@@ -1,8 +1,9 @@
 // What a run answers.
-ghost use Rattle.std.specs.Prelude.{◌≡◌};
+ghost use Rattle.std.specs.Prelude.{◌≡◌, Some};
 ghost use Rattle.machine.specs.Asked.{answer_number, answer_place};
 
 use bus::Refusal;
+use std::fmt;
 
 // How many steps a call completed, and why it went no further, if it did not.
 #[derive(Clone, Copy, PartialEq, Eq, Debug)]
@@ -16,19 +17,29 @@ impl Answer {
     pub fn number(self) -> u8
         ensures { result ≡ answer_number self.refusal }
     {
-        match self.refusal {
-            None => 0,
-            Some(refusal) => refusal.number(),
-        }
+        self.refusal.map_or(0, Refusal::number)
     }
 
     // Its place, 0 for none.
     pub fn place(self) -> u32
         ensures { result ≡ answer_place self.refusal }
     {
+        self.refusal.map_or(0, Refusal::place)
+    }
+}
+
+// The steps, and the refusal if there is one, as the programs print them.
+impl fmt::Display for Answer {
+    ghost use Rattle.machine.specs.Shown.{answer_shown};
+
+    ghost output = { λ a. Some (answer_shown a) };
+
+    fn fmt<W: fmt::Write>(&self, f: &mut fmt::Formatter<W>) -> fmt::Result {
+        let completed = self.completed;
+        write!(f, "{completed} completed")?;
         match self.refusal {
-            None => 0,
-            Some(refusal) => refusal.place(),
+            None => Ok(()),
+            Some(refusal) => write!(f, ", refused: {refusal}"),
         }
     }
 }

@@ -5,14 +5,12 @@ ghost use Rattle.session.specs.Calls.{opened, preset_to, preset_answer, started}
 use super::running::Running;
 use bus::Refusal;
 use machine::{Machine, Questions};
-use number::flags::Flags;
-use processor::Cpu;
 
 // Registers may be preset, and then it is started.
 //
 // Why three types, each with its own `machine`: `start` and `close` move a session from one to the next, so that a call
 // out of order does not build. One type with a parameter for the state would have the parameter in every contract.
-#[derive(Drop)]
+#[derive(Default, Drop)]
 pub struct Setup {
     pub(crate) machine: Machine,
 }
@@ -22,26 +20,7 @@ impl Setup {
     pub fn new() -> Setup
         ensures { result.machine ≡ opened }
     {
-        let registers = [0; 32];
-        let flags = Flags {
-            cy: false,
-            ov: false,
-            s: false,
-            z: false,
-        };
-        let cpu = Cpu {
-            registers,
-            pc: 0,
-            flags,
-        };
-        Setup {
-            machine: Machine {
-                cpu,
-                completed: 0,
-                read: 0,
-                written: 0,
-            },
-        }
+        Setup::default()
     }
 
     // Sets a register.
