@@ -18,15 +18,8 @@ fn main(rt: HostRuntime) -> io::Result<()> {
     // mov.w #0x5, r1; nop
     let mut memory = [0x2d, 0x21, 0xe5, 0xcd];
     let mut board = Ram::new(0x1000, &mut memory);
-    let mut reads = [ReadLine {
-        address: 0,
-        byte: 0,
-    }; 304];
-    let mut writes = [WriteLine {
-        step: 0,
-        address: 0,
-        byte: 0,
-    }; 256];
+    let mut reads = [ReadLine::default(); 304];
+    let mut writes = [WriteLine::default(); 256];
     let mut setup = Setup::new();
     let _ = setup.preset(1, 4);
     tell(&rt, "set up", &setup)?;
