@@ -11,7 +11,7 @@ use machine::{Answer, Machine, Questions};
 use session::{Closed, Running, Setup};
 
 // A session in any state.
-#[derive(Drop)]
+#[derive(PartialEq, Eq, Debug, Drop)]
 pub enum Session {
     Setup(Setup),
     Running(Running),

@@ -2,7 +2,7 @@
 use machine::{Machine, Questions};
 
 // It may only be asked.
-#[derive(Drop)]
+#[derive(PartialEq, Eq, Debug, Drop)]
 pub struct Closed {
     pub(crate) machine: Machine,
 }

@@ -9,7 +9,7 @@ use bus::{ReadLine, Refusal, WriteLine};
 use machine::{Answer, Machine, Questions};
 
 // It is stepped and run beside its board and its two sheets, and closed in the end.
-#[derive(Drop)]
+#[derive(PartialEq, Eq, Debug, Drop)]
 pub struct Running {
     pub(crate) machine: Machine,
 }
