@@ -1,5 +1,5 @@
 -- Worked steps: small jobs on a RAM of 256 bytes from 1000h on, and what the written rules make of each.
-use Rattle.std.specs.Prelude.{◌≡◌, ℕ, Bool, true, false, cond, List, [], ◌∷◌, ◌++◌, map, length, replicate}
+use Rattle.std.specs.Prelude.{◌≡◌, ℕ, Bool, true, false, cond, List, [], ◌∷◌, ◌++◌, map, length, replicate, slice_index}
 use Rattle.board.specs.declared.Right.{Right}
 use Rattle.board.specs.declared.Right.TheVariants.{ReadWrite}
 use Rattle.board.specs.Meaning.{covers, over, held}
@@ -19,7 +19,7 @@ ram a = over ReadWrite 0x1000 256 a
 
 abbrev pub filled : List (ℕ × List ℕ) → ℕ → ℕ
 filled [] a = 0
-filled (x ∷ xs) a = cond (covers x.0 (length x.1) a) (held x.0 x.1 a) (filled xs a)
+filled (x ∷ xs) a = cond (covers x.0 (length x.1) a) (held x.0 (length x.1) (slice_index x.1) a) (filled xs a)
 
 -- what is told of the end of a job
 pub data Fact : Type 0 where
