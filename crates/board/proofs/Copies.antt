@@ -1,5 +1,5 @@
 -- Copying byte by byte: one more byte, and none after a refusal.
-use Rattle.std.proofs.Common.{◌≡◌, ℕ, zero, suc, ◌+◌, ◌<◌, ◌≤◌, Bool, true, false, cond, eqb, Some, None, Option, sym, refl, ap, ◌∙◌, subst, inl, inr, add-one, arith}
+use Rattle.std.proofs.Common.{◌≡◌, ℕ, zero, suc, ◌+◌, ◌<◌, ◌≤◌, Bool, false, cond, eqb, Some, None, Option, sym, refl, ap, ◌∙◌, subst, inl, inr, add-one, arith}
 use Rattle.std.proofs.lemmas.Bool.{eq-eqb, ne_eqb, cases_lt}
 use Rattle.board.specs.declared.Right.{Right}
 use Rattle.board.specs.Meaning.{fetched, writable, changed, stored}
@@ -24,13 +24,7 @@ module _ (rights : ℕ → Right) (from to : ℕ) (f : ℕ → ℕ) where
     | inr t ↦ let e : n ≡ suc m = omega arith in subst (λ j. copied rights from to j f ≡ (k, g)) e h
   ]
 
-  -- a turn of the loop, on a board whose rights are still the same: the byte was copied
-  pub turn_copies : (now_rights : ℕ → Right) (n b : ℕ) (g g' : ℕ → ℕ) → now_rights ≡ rights → copied rights from to n f ≡ (n, g) → Some b ≡ fetched (now_rights (above from n)) (g (above from n)) → true ≡ writable (now_rights (above to n)) → g' ≡ stored (now_rights (above to n)) (above to n) b g → copied rights from to (n + 1) f ≡ (n + 1, g')
-  turn_copies now_rights n b g g' same h p q s =
-      copied_more n g (Some b) true h (p ∙ ap (λ r. fetched (r (above from n)) (g (above from n))) same) (q ∙ ap (λ r. writable (r (above to n))) same)
-      ∙ (λ i. (sym (add-one n) i, (sym (s ∙ (λ j x. cond (sym q j) (changed (above to n) b g x) (g x))) i)))
-
-  -- the byte may not be stored
+  -- a turn of the loop, on a board whose rights are still the same: the byte may not be stored
   pub turn_stops : (now_rights : ℕ → Right) (n b m : ℕ) (g g' : ℕ → ℕ) → now_rights ≡ rights → n < m → copied rights from to n f ≡ (n, g) → Some b ≡ fetched (now_rights (above from n)) (g (above from n)) → false ≡ writable (now_rights (above to n)) → g' ≡ stored (now_rights (above to n)) (above to n) b g → copied rights from to m f ≡ (n, g')
   turn_stops now_rights n b m g g' same l h p q s =
       copied_stays m (n + 1) n g (omega arith) (omega arith) (copied_more n g (Some b) false h (p ∙ ap (λ r. fetched (r (above from n)) (g (above from n))) same) (q ∙ ap (λ r. writable (r (above to n))) same))
