@@ -19,90 +19,71 @@ mod tests {
 
     // What a caller's attempt is refused with.
     fn refused(action: Action, length: u32) -> Option<Refusal> {
-        match Instruction::new(action, length) {
-            Ok(_) => None,
-            Err(refusal) => Some(refusal),
-        }
+        Instruction::new(action, length).err()
     }
 
     fn mov(size: Size, first: Operand, second: Operand) -> Action {
         Action::Two(TwoOperation::Mov, size, size, first, second)
     }
 
-    fn string(length: Length) -> StringOperand {
-        StringOperand {
+    fn movc(first: Length, second: Length) -> Action {
+        let [first, second] = [first, second].map(|length| StringOperand {
             operand: Operand::Memory(Address::Indirect(1)),
             length,
             place: 3,
-        }
+        });
+        Action::Strings(StringOperation::Movc, Size::Byte, first, second)
     }
 
     #[test]
     fn a_move_is_made_as_it_is_given(rt: HostRuntime) -> Result<(), Fail> {
         let action = mov(Size::Word, Operand::Immediate(5), Operand::Register(1));
         let made = Instruction::new(action, 3)?;
+        assert_eq!(rt; made.action(), action);
         assert_eq!(rt; made.length(), 3);
-        assert_eq!(rt; refused(action, 3), None);
         Ok(())
     }
 
     #[test]
     fn a_register_above_31_comes_first(rt: HostRuntime) {
         let high = mov(Size::Word, Operand::Register(32), Operand::Immediate(5));
-        assert_eq!(rt; refused(high, 3), NO_REGISTER);
         let index = Operand::Indexed(Address::Displaced(Base::Register(31), 4), 32);
-        assert_eq!(rt;
-            refused(mov(Size::Word, index, Operand::Register(0)), 0),
-            NO_REGISTER
-        );
-        let long = string(Length::Register(32));
-        let short = string(Length::Literal(3));
-        let action = Action::Strings(StringOperation::Movc, Size::Byte, short, long);
-        assert_eq!(rt; refused(action, 6), NO_REGISTER);
+        let indexed = mov(Size::Word, index, Operand::Register(0));
+        let string = movc(Length::Literal(3), Length::Register(32));
+        for (action, length) in [(high, 3), (indexed, 0), (string, 6)] {
+            assert_eq!(rt; refused(action, length), NO_REGISTER);
+        }
     }
 
     #[test]
     fn an_immediate_that_is_written_comes_second(rt: HostRuntime) {
-        let word = mov(Size::Word, Operand::Register(1), Operand::Immediate(5));
-        assert_eq!(rt; refused(word, 3), FORBIDDEN);
-        let double = mov(
-            Size::Doubleword,
-            Operand::Immediate(1),
-            Operand::Immediate(5),
-        );
-        assert_eq!(rt; refused(double, 30), FORBIDDEN);
-        let inc = Action::One(OneOperation::Inc, Size::Byte, Operand::Immediate(1));
-        assert_eq!(rt; refused(inc, 2), FORBIDDEN);
+        let one = Operand::Immediate(1);
+        let five = Operand::Immediate(5);
+        let word = mov(Size::Word, Operand::Register(1), five);
+        let double = mov(Size::Doubleword, one, five);
+        let inc = Action::One(OneOperation::Inc, Size::Byte, one);
+        for (action, length) in [(word, 3), (double, 30), (inc, 2)] {
+            assert_eq!(rt; refused(action, length), FORBIDDEN);
+        }
     }
 
     #[test]
     fn doublewords_have_no_immediate_and_no_r31(rt: HostRuntime) {
-        let immediate = mov(
-            Size::Doubleword,
-            Operand::Immediate(5),
-            Operand::Register(2),
-        );
-        assert_eq!(rt; refused(immediate, 3), RESERVED);
-        let last = mov(
-            Size::Doubleword,
-            Operand::Register(31),
-            Operand::Register(2),
-        );
-        assert_eq!(rt; refused(last, 3), RESERVED);
-        let fine = mov(
-            Size::Doubleword,
-            Operand::Register(30),
-            Operand::Register(2),
-        );
-        assert_eq!(rt; refused(fine, 3), None);
+        for (first, refusal) in [
+            (Operand::Immediate(5), RESERVED),
+            (Operand::Register(31), RESERVED),
+            (Operand::Register(30), None),
+        ] {
+            let action = mov(Size::Doubleword, first, Operand::Register(2));
+            assert_eq!(rt; refused(action, 3), refusal);
+        }
     }
 
     #[test]
     fn lengths_are_1_to_22(rt: HostRuntime) {
-        assert_eq!(rt; refused(Action::Nop, 0), RESERVED);
-        assert_eq!(rt; refused(Action::Nop, 1), None);
-        assert_eq!(rt; refused(Action::Nop, 22), None);
-        assert_eq!(rt; refused(Action::Nop, 23), RESERVED);
+        for (length, refusal) in [(0, RESERVED), (1, None), (22, None), (23, RESERVED)] {
+            assert_eq!(rt; refused(Action::Nop, length), refusal);
+        }
     }
 
     #[test]
@@ -114,16 +95,19 @@ mod tests {
             Operand::Register(1),
             Operand::Register(2),
         );
-        assert_eq!(rt; refused(movea, 3), RESERVED);
         let jump = Action::One(OneOperation::Jmp, Size::Byte, Operand::Immediate(1));
-        assert_eq!(rt; refused(jump, 2), RESERVED);
         let wide = mov(Size::Byte, Operand::Immediate(0x100), Operand::Register(1));
-        assert_eq!(rt; refused(wide, 4), RESERVED);
-        assert_eq!(rt; refused(Action::Branch(11, 0), 2), RESERVED);
-        assert_eq!(rt; refused(Action::Branch(10, 0x8000), 3), RESERVED);
-        assert_eq!(rt; refused(Action::Branch(10, -0x8000), 3), None);
-        let long = string(Length::Literal(128));
-        let action = Action::Strings(StringOperation::Movc, Size::Byte, long, long);
-        assert_eq!(rt; refused(action, 6), RESERVED);
+        let long = Length::Literal(128);
+        for (action, length, refusal) in [
+            (movea, 3, RESERVED),
+            (jump, 2, RESERVED),
+            (wide, 4, RESERVED),
+            (Action::Branch(11, 0), 2, RESERVED),
+            (Action::Branch(10, 0x8000), 3, RESERVED),
+            (Action::Branch(10, -0x8000), 3, None),
+            (movc(long, long), 6, RESERVED),
+        ] {
+            assert_eq!(rt; refused(action, length), refusal);
+        }
     }
 }
