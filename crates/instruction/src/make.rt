@@ -60,8 +60,8 @@ impl Operand {
             Operand::Register(n) => register_verdict(access, size, n).is_ok(),
             Operand::Immediate(value) => {
                 let narrow = match size {
-                    Size::Byte => value < 0x100,
-                    Size::Halfword => value < 0x1_0000,
+                    Size::Byte => u8::try_from(value).is_ok(),
+                    Size::Halfword => u16::try_from(value).is_ok(),
                     Size::Word | Size::Doubleword => true,
                 };
                 immediate_verdict(access, size).is_ok() && narrow
@@ -148,7 +148,7 @@ impl OneOperation {
 fn is_halfword(displacement: i32) -> bool
     ensures { result ≡ fits 16 displacement }
 {
-    -0x8000 <= displacement && displacement < 0x8000
+    i16::try_from(displacement).is_ok()
 }
 
 impl Action {
