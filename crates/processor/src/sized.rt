@@ -18,6 +18,8 @@ pub(crate) fn low_of(size: Size, number: u64) -> u64
 }
 
 // The low bits of a number, at a size, with their sign.
+//
+// Why a match: of a number shifted to the top of 64 bits and back, which keeps its sign, the proof did not close.
 pub(crate) fn signed_of(size: Size, number: u64) -> i64
     ensures { result ≡ signed (8 * byte_count size) (number % 2 ^ (8 * byte_count size)) }
 {

@@ -2,41 +2,41 @@ use borrow.Author.Rules.{rules}
 use mir.Val.{to_z, of_z}
 use mir.Syntax.{w32}
 use mathlib.Core.Path.{◌≡◌, ap, sym, ◌∙◌}
-use Rattle.bus.proofs.Laws.{by_case, gives}
-use Rattle.execute.specs.One.{branched, calling_relative}
+use Rattle.bus.proofs.Laws.{gives}
+use Rattle.execute.specs.One.{branched}
 use Rattle.execute.specs.Execute.{acted}
 use Rattle.execute.proofs.dispatch.acted.Goals as goal
 
 pub returns-in-Two : goal.returns-in-Two
 unfolding acted
-returns-in-Two g c = by_case (λ a. acted c.args.cpu a c.args.next) c.in-Two.is c.two_operands.ensures
+returns-in-Two g c = rw c.in-Two.is c.two_operands.ensures
 
 pub returns-in-One : goal.returns-in-One
 unfolding acted
-returns-in-One g c = by_case (λ a. acted c.args.cpu a c.args.next) c.in-One.is c.one_operand.ensures
+returns-in-One g c = rw c.in-One.is c.one_operand.ensures
 
 pub returns-in-Branch : goal.returns-in-Branch
 unfolding acted
 returns-in-Branch g c =
     let e : to_z w32 (of_z w32 c.in-Branch.d) ≡ c.in-Branch.d = search rules in
-    by_case (λ a. acted c.args.cpu a c.args.next) c.in-Branch.is
+    rw c.in-Branch.is
     (gives (sym (c.branched.ensures ∙ ap (λ d. branched c.args.cpu c.in-Branch.k d c.args.next) e)))
 
 pub returns-in-Bsr : goal.returns-in-Bsr
 unfolding acted
 returns-in-Bsr g c =
     let e : to_z w32 (of_z w32 c.in-Bsr.d) ≡ c.in-Bsr.d = search rules in
-    by_case (λ a. acted c.args.cpu a c.args.next) c.in-Bsr.is
-    (by_case (λ d. calling_relative c.args.cpu d c.args.next) (sym e) c.calling_relative.ensures)
+    rw c.in-Bsr.is
+    (rw e at c.calling_relative.ensures)
 
 pub returns-in-Rsr : goal.returns-in-Rsr
 unfolding acted
-returns-in-Rsr g c = by_case (λ a. acted c.args.cpu a c.args.next) c.in-Rsr.is c.returning.ensures
+returns-in-Rsr g c = rw c.in-Rsr.is c.returning.ensures
 
 pub returns-in-Nop : goal.returns-in-Nop
 unfolding acted
-returns-in-Nop g c = by_case (λ a. acted c.args.cpu a c.args.next) c.in-Nop.is (gives (sym c.gone_on.ensures))
+returns-in-Nop g c = rw c.in-Nop.is (gives (sym c.gone_on.ensures))
 
 pub returns-in-Strings : goal.returns-in-Strings
 unfolding acted
-returns-in-Strings g c = by_case (λ a. acted c.args.cpu a c.args.next) c.in-Strings.is c.string_instruction.ensures
+returns-in-Strings g c = rw c.in-Strings.is c.string_instruction.ensures

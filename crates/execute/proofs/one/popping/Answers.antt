@@ -1,7 +1,5 @@
 use Rattle.std.proofs.Common.{sym}
-use Rattle.bus.proofs.Laws.{goes_on, ends_at, gives, hands_on, by_case}
-use Rattle.number.specs.declared.width.Size.TheVariants.{Word}
-use Rattle.processor.specs.Operands.{write_at}
+use Rattle.bus.proofs.Laws.{goes_on, ends_at, gives, hands_on}
 use Rattle.execute.specs.One.{popping}
 use Rattle.execute.proofs.one.popping.Goals as goal
 
@@ -19,11 +17,11 @@ returns-in_err-done g c =
     hands_on c.from_residual-in_err-done.ensures.1
     (goes_on _ c.in_ok-raised.ensures
     (goes_on _ c.in_ok-found.ensures
-    (ends_at _ (by_case (write_at c.in_ok-found.found.cpu Word c.in_ok-found.found.location) (sym c.from.ensures) c.in_err-done.ensures))))
+    (ends_at _ (rw c.from.ensures at c.in_err-done.ensures))))
 
 pub returns : goal.returns
 unfolding popping
 returns g c =
     goes_on _ c.in_ok-raised.ensures
     (goes_on _ c.in_ok-found.ensures
-    (goes_on _ (by_case (write_at c.in_ok-found.found.cpu Word c.in_ok-found.found.location) (sym c.from.ensures) c.in_ok-done.ensures) (gives (sym c.gone_on.ensures))))
+    (goes_on _ (rw c.from.ensures at c.in_ok-done.ensures) (gives (sym c.gone_on.ensures))))
