@@ -147,4 +147,4 @@ acted_enough c (Strings o s x y) next h = string_enough c o s x y next h
 -- 22 bytes of code, two pointers of 4, and 128 characters of 2 are 286
 pub step_bounded : (c : Cpu) → Bounded 300 (one_step c)
 unfolding one_step
-step_bounded c = enough_bounded 286 300 _ (omega arith) (enough_known 22 264 286 Narrow _ _ (omega arith) (reads_decode c.pc) (decode_narrow c.pc) (λ d h. acted_enough c d.action d.next h))
+step_bounded c = enough_bounded 286 300 _ (omega arith) (enough_known 22 264 286 Narrow _ _ (omega arith) (reads_decode c.pc) (decode_narrow c.pc) (λ d h. acted_enough c d.value d.next h))

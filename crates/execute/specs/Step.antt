@@ -5,4 +5,4 @@ use Rattle.processor.specs.declared.cpu.Cpu.{Cpu}
 use Rattle.execute.specs.Execute.{acted}
 
 unfoldable pub one_step : Cpu → Program Cpu
-one_step c = decode c.pc >>= λ d. acted c d.action d.next
+one_step c = decode c.pc >>= λ d. acted c d.value d.next
