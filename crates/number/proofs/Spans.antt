@@ -1,9 +1,8 @@
 -- When the product of a signed number and a power of two is a signed number of the width.
-use Rattle.std.proofs.Common.{inl, inr, Bool, true, false, SFits, w32, lt_of_lt_of_le, pow_mono, ◌≡◌, ℕ, zero, suc, ◌-◌, ◌*◌, ◌/◌, ◌^◌, ◌<◌, ◌≤◌, cond, ltb, leb, ℤ, pos, negsuc, ◌-ℤ◌, ◌*ℤ◌, neg_ℤ, sym, refl, ap, ◌∙◌, le_trans, mul-le-mul_right, div-mul-le_self, arith, pow_pos}
+use Rattle.std.proofs.Common.{Bool, true, false, SFits, w32, lt_of_lt_of_le, pow_mono, ◌≡◌, ℕ, zero, suc, ◌-◌, ◌*◌, ◌/◌, ◌^◌, ◌<◌, ◌≤◌, cond, ltb, leb, ℤ, pos, negsuc, ◌-ℤ◌, ◌*ℤ◌, neg_ℤ, sym, refl, ap, ◌∙◌, le_trans, mul-le-mul_right, div-mul-le_self, arith, pow_pos}
 use Rattle.std.proofs.lemmas.Nat.{le-div, mul-le}
 use Rattle.std.proofs.lemmas.Int.{ints}
-use Rattle.std.proofs.Math.Nat.{pow-succ'}
-use Rattle.std.proofs.lemmas.Bool.{cases_lt, ltb-true, leb-true, le-leb, lt-ltb, le-ltb}
+use Rattle.std.proofs.lemmas.Bool.{ltb-true, leb-true, le-leb, lt-ltb, le-ltb}
 use Rattle.std.proofs.lemmas.Bool.Decides.{same_from_decides, nat_tests}
 use Rattle.std.specs.Int.{from_bool}
 use Rattle.number.specs.Words.{signed, fits}
@@ -42,21 +41,12 @@ fits_below w v k n H M e f m p h g =
     ∙ within (suc x) (2 ^ k) (2 ^ (w - 1)) (pow_pos k) ∙ neg_fits w (suc x * 2 ^ k) some
     ∙ ap (λ z. fits w (z *ℤ pos (2 ^ k))) (sym (signed_below w v down top))
 
--- a number's signed value is a signed number of its width
-pub signed_fits : (w n : ℕ) → 1 ≤ w → n < 2 ^ w → fits w (signed w n) ≡ true
-signed_fits w n s h =
-    let all : suc (w - 1) ≡ w = omega arith in
-    let half : 2 ^ w ≡ 2 * 2 ^ (w - 1) = ap (λ v. 2 ^ v) (sym all) ∙ pow-succ' 2 (w - 1) in
-    elim (cases_lt n (2 ^ (w - 1))) [
-      | inl p ↦ ap (fits w) (signed_above w n p) ∙ lt-ltb n (2 ^ (w - 1)) p
-      | inr p ↦ ap (fits w) (signed_below w n p h) ∙ lt-ltb (2 ^ w - suc n) (2 ^ (w - 1)) (omega arith)
-    ]
-
--- and so is one of a word where the width is no wider
+-- a signed number of a width is one of a word, where the width is no wider
 pub fits_word : (w : ℕ) (z : ℤ) → w ≤ 32 → fits w z ≡ true → SFits w32 z
 fits_word w (pos n) p h = record { sfits = lt_of_lt_of_le (ltb-true n (2 ^ (w - 1)) h) (pow_mono {j = 31} (omega arith)) }
 fits_word w (negsuc n) p h = record { sfits = lt_of_lt_of_le (ltb-true n (2 ^ (w - 1)) h) (pow_mono {j = 31} (omega arith)) }
 
+-- a flag, as a number
 pub flag : (b : Bool) → from_bool b ≤ 1
 flag true = omega arith
 flag false = omega arith
