@@ -1,0 +1,32 @@
+-- What is printed, as text.
+use Rattle.std.specs.Prelude.{ℕ, zero, suc, ◌*◌, ◌-◌, ◌^◌, true, false, List, [], ◌++◌, Some, None, Option, codes, flat_map}
+use Rattle.std.specs.Fmt.{digits, padded_integral, format_spec}
+use Rattle.board.specs.declared.Right.{Right}
+use Rattle.board.specs.declared.Right.TheVariants.{NoAccess, ReadOnly, ReadWrite}
+use Rattle.board.specs.Block.{above, fetches}
+
+-- a number in upper-case hexadecimal, with zeros before it up to so many digits
+abbrev pub hexadecimal : ℕ → ℕ → List ℕ
+hexadecimal width n = padded_integral (format_spec 32 0 4 width (2 ^ 64 - 1)) false [] (digits 16 true n)
+
+abbrev pub right_name : Right → List ℕ
+right_name NoAccess = codes "none"
+right_name ReadOnly = codes "read"
+right_name ReadWrite = codes "read-write"
+
+-- a byte of a board, where there is a right
+abbrev pub cell_text : Option ℕ → List ℕ
+cell_text (Some byte) = codes " " ++ hexadecimal 2 byte
+cell_text None = codes " .."
+
+abbrev pub cells_text : List (Option ℕ) → List ℕ
+cells_text cells = flat_map cell_text cells
+
+-- a line with the sixteen bytes from an address on
+abbrev pub row_text : (ℕ → Right) → (ℕ → ℕ) → ℕ → List ℕ
+row_text rights bytes a = codes "  " ++ hexadecimal 8 a ++ codes " " ++ cells_text (fetches rights bytes a 16) ++ codes "\n"
+
+-- so many of them, one after another
+abbrev pub rows_text : (ℕ → Right) → (ℕ → ℕ) → ℕ → ℕ → List ℕ
+rows_text rights bytes from zero = []
+rows_text rights bytes from (suc n) = rows_text rights bytes from n ++ row_text rights bytes (above from (n * 16))

@@ -1,0 +1,8 @@
+// What programs print of a board and of the code on it, as values that show themselves.
+#![tactic(auto)]
+
+mod cells;
+mod right;
+
+pub use cells::{Cells, Rows};
+pub use right::right_name;
