@@ -1,8 +1,9 @@
 -- What is printed, as text.
 use Rattle.std.specs.Prelude.{ℕ, zero, suc, ◌*◌, ◌-◌, ◌^◌, true, false, List, [], ◌++◌, Some, None, Option, codes, flat_map}
-use Rattle.std.specs.Fmt.{digits, padded_integral, format_spec}
+use Rattle.std.specs.Fmt.{digits, padded, padded_integral, format_spec}
 use Rattle.board.specs.declared.Right.{Right}
 use Rattle.board.specs.declared.Right.TheVariants.{NoAccess, ReadOnly, ReadWrite}
+use Rattle.printout.specs.declared.region.Region.{Region}
 use Rattle.board.specs.Block.{above, fetches}
 
 -- a number in upper-case hexadecimal, with zeros before it up to so many digits
@@ -30,3 +31,19 @@ row_text rights bytes a = codes "  " ++ hexadecimal 8 a ++ codes " " ++ cells_te
 abbrev pub rows_text : (ℕ → Right) → (ℕ → ℕ) → ℕ → ℕ → List ℕ
 rows_text rights bytes from zero = []
 rows_text rights bytes from (suc n) = rows_text rights bytes from n ++ row_text rights bytes (above from (n * 16))
+
+-- a region: its addresses, its right and its first bytes
+abbrev pub region_start : ℕ → ℕ → List ℕ
+region_start first last = codes "  " ++ hexadecimal 8 first ++ codes "-" ++ hexadecimal 8 last ++ codes "  "
+
+-- a name, with spaces after it up to ten characters
+abbrev pub in_column : List ℕ → List ℕ
+in_column name = padded (format_spec 32 1 0 10 (2 ^ 64 - 1)) name
+
+abbrev pub region_rest : Right → List (Option ℕ) → List ℕ
+region_rest NoAccess cells = codes "none"
+region_rest ReadOnly cells = in_column (codes "read") ++ cells_text cells
+region_rest ReadWrite cells = in_column (codes "read-write") ++ cells_text cells
+
+abbrev pub region_text : Region → List ℕ
+region_text r = region_start r.first r.last ++ region_rest r.right r.cells

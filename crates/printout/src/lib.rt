@@ -2,7 +2,9 @@
 #![tactic(auto)]
 
 mod cells;
+mod region;
 mod right;
 
 pub use cells::{Cells, Rows};
+pub use region::{Region, Regions};
 pub use right::right_name;
