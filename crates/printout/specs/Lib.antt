@@ -1,2 +1,3 @@
 pub mod Text
 pub mod Regions
+pub mod Listing

@@ -10,6 +10,10 @@ use Rattle.board.specs.Block.{above, fetches}
 abbrev pub hexadecimal : ℕ → ℕ → List ℕ
 hexadecimal width n = padded_integral (format_spec 32 0 4 width (2 ^ 64 - 1)) false [] (digits 16 true n)
 
+-- a byte and the address that it lies at
+abbrev pub byte_at_text : ℕ → ℕ → List ℕ
+byte_at_text address byte = hexadecimal 8 address ++ codes " " ++ hexadecimal 2 byte
+
 abbrev pub right_name : Right → List ℕ
 right_name NoAccess = codes "none"
 right_name ReadOnly = codes "read"

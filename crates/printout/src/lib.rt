@@ -1,10 +1,14 @@
 // What programs print of a board and of the code on it, as values that show themselves.
 #![tactic(auto)]
 
+mod byte_at;
 mod cells;
+mod listing;
 mod region;
 mod right;
 
+pub use byte_at::ByteAt;
 pub use cells::{Cells, Rows};
+pub use listing::{Line, Listing};
 pub use region::{Region, Regions};
 pub use right::right_name;

@@ -23,7 +23,10 @@ impl fmt::Display for Region {
 
     fn fmt<W: fmt::Write>(&self, f: &mut fmt::Formatter<W>) -> fmt::Result {
         let Region {
-            first, last, right, ..
+            first,
+            last,
+            right,
+            ..
         } = *self;
         let name = right_name(right);
         match right {

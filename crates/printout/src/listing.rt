@@ -1,0 +1,82 @@
+// Code on a board, an instruction to a line.
+ghost use Rattle.std.specs.Prelude.{◌≡◌, Some};
+ghost use Rattle.bus.specs.Seen.{Runs};
+ghost use Rattle.instruction.specs.Build.{as_decoded};
+ghost use Rattle.instruction.specs.Formats.{decode as decode_is};
+ghost use Rattle.printout.specs.Listing.{decoded_at, scratch_seen, TellsLine};
+
+use board::{Board, read_block};
+use bus::{ReadLine, Refusal, StepBus, StoreBuffer};
+use instruction::{Instruction, decode};
+
+// no instruction is longer
+const LONGEST: usize = 22;
+
+// The decoder on its bus.
+fn on_bus<B: Board>(bus: &mut StepBus<'_, '_, B>, pc: u32) -> Result<Instruction, Refusal>
+    ensures { Runs (decode_is pc) (scratch_seen B.Board.rights B.Board.bytes bus.old) (as_decoded pc result) (scratch_seen B.Board.rights B.Board.bytes bus.new) }
+{
+    decode(bus, pc)
+}
+
+// The instruction at an address, read onto a sheet that nobody keeps.
+fn decode_on<B: Board>(board: &B, pc: u32) -> Result<Instruction, Refusal>
+    ensures { as_decoded pc result ≡ decoded_at (B.Board.rights board.now) (B.Board.bytes board.now) pc }
+{
+    let mut reads = [ReadLine::default(); LONGEST];
+    let mut bus = StepBus {
+        board,
+        reads: &mut reads,
+        used: 0,
+        writes: &[],
+        buffer: StoreBuffer::new(),
+    };
+    on_bus(&mut bus, pc)
+}
+
+// An address, the bytes from there on, and the instruction that they are, or why they are none.
+#[derive(Clone, Copy)]
+pub struct Line {
+    pub pc: u32,
+    pub cells: [Option<u8>; LONGEST],
+    pub decoded: Result<Instruction, Refusal>,
+}
+
+// The instructions of a board that are still to be told.
+#[derive(Drop)]
+pub struct Listing<'a, B> {
+    board: &'a B,
+    // the address of the next one; none after one that was refused
+    next: Option<u32>,
+}
+
+impl<'a, B: Board> Listing<'a, B> {
+    // One instruction after another from an address on, up to the first that is refused.
+    pub fn from(board: &'a B, pc: u32) -> Listing<'a, B>
+        ensures board { result.board.now ≡ board.now }
+        ensures next { result.next ≡ Some pc }
+    {
+        Listing {
+            board,
+            next: Some(pc),
+        }
+    }
+}
+
+impl<B: Board> Iterator for Listing<'_, B> {
+    type Item = Line;
+
+    ghost next_gives = { λ s r t. TellsLine (B.Board.rights s.board.now) (B.Board.bytes s.board.now) s.next r t.next };
+
+    fn next(&mut self) -> Option<Line> {
+        let pc = self.next?;
+        let decoded = decode_on(self.board, pc);
+        self.next = match decoded {
+            Ok(instruction) => Some(pc.wrapping_add(instruction.length())),
+            Err(_) => None,
+        };
+        let mut cells = [None; LONGEST];
+        read_block(self.board, pc, &mut cells);
+        Some(Line { pc, cells, decoded })
+    }
+}
