@@ -1,14 +1,20 @@
 // What programs print of a board and of the code on it, as values that show themselves.
 #![tactic(auto)]
 
+mod action;
 mod byte_at;
 mod cells;
 mod listing;
+mod name;
+mod operand;
+mod refusal;
 mod region;
 mod right;
 
+pub use action::ActionText;
 pub use byte_at::ByteAt;
 pub use cells::{Cells, Rows};
 pub use listing::{Line, Listing};
+pub use refusal::RefusalText;
 pub use region::{Region, Regions};
 pub use right::right_name;

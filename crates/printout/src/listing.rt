@@ -4,10 +4,15 @@ ghost use Rattle.bus.specs.Seen.{Runs};
 ghost use Rattle.instruction.specs.Build.{as_decoded};
 ghost use Rattle.instruction.specs.Formats.{decode as decode_is};
 ghost use Rattle.printout.specs.Listing.{decoded_at, scratch_seen, TellsLine};
+ghost use Rattle.printout.specs.Lines.{code_text, line_text};
 
+use super::action::ActionText;
+use super::cells::Cells;
+use super::refusal::RefusalText;
 use board::{Board, read_block};
 use bus::{ReadLine, Refusal, StepBus, StoreBuffer};
 use instruction::{Instruction, decode};
+use std::fmt;
 
 // no instruction is longer
 const LONGEST: usize = 22;
@@ -40,6 +45,42 @@ pub struct Line {
     pub pc: u32,
     pub cells: [Option<u8>; LONGEST],
     pub decoded: Result<Instruction, Refusal>,
+}
+
+// The bytes of an instruction, in a column that is wide enough for eight.
+#[derive(Drop)]
+struct Code<'a>(&'a [Option<u8>]);
+
+impl fmt::Display for Code<'_> {
+    ghost output = { λ c. Some (code_text c.0.now) };
+
+    fn fmt<W: fmt::Write>(&self, f: &mut fmt::Formatter<W>) -> fmt::Result {
+        write!(f, "{}", Cells(self.0))?;
+        for _missing in self.0.len()..8 {
+            write!(f, "   ")?;
+        }
+        Ok(())
+    }
+}
+
+impl fmt::Display for Line {
+    ghost output = { λ l. Some (line_text l) };
+
+    fn fmt<W: fmt::Write>(&self, f: &mut fmt::Formatter<W>) -> fmt::Result {
+        let pc = self.pc;
+        match self.decoded {
+            Ok(instruction) => {
+                let length = LONGEST.min(instruction.length() as usize);
+                let code = Code(&self.cells[..length]);
+                let action = ActionText {
+                    pc,
+                    action: instruction.action(),
+                };
+                write!(f, "  {pc:08X} {code}  {action}")
+            }
+            Err(refusal) => write!(f, "  {pc:08X}  refused: {}", RefusalText(refusal)),
+        }
+    }
 }
 
 // The instructions of a board that are still to be told.

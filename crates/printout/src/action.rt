@@ -1,0 +1,47 @@
+// What an instruction does, as code is written.
+ghost use Rattle.std.specs.Prelude.{Some};
+ghost use Rattle.printout.specs.Instructions.{action_text};
+
+use super::name::{OneName, TwoName, branch_name, letter, string_word};
+use super::operand::{OperandText, StringText};
+use instruction::Action;
+use std::fmt;
+
+// An action at PC. A branch shows the address that it goes to.
+#[derive(Clone, Copy)]
+pub struct ActionText {
+    pub pc: u32,
+    pub action: Action,
+}
+
+impl fmt::Display for ActionText {
+    ghost output = { λ a. Some (action_text a.pc a.action) };
+
+    fn fmt<W: fmt::Write>(&self, f: &mut fmt::Formatter<W>) -> fmt::Result {
+        match self.action {
+            Action::Two(operation, from, to, first, second) => {
+                let name = TwoName(operation, from, to);
+                write!(f, "{name} {}, {}", OperandText(first), OperandText(second))
+            }
+            Action::One(operation, size, operand) => {
+                write!(f, "{} {}", OneName(operation, size), OperandText(operand))
+            }
+            Action::Branch(condition, displacement) => {
+                let name = branch_name(condition);
+                let target = self.pc.wrapping_add(displacement.cast_unsigned());
+                write!(f, "{name} 0x{target:x}")
+            }
+            Action::Bsr(displacement) => {
+                let target = self.pc.wrapping_add(displacement.cast_unsigned());
+                write!(f, "bsr 0x{target:x}")
+            }
+            Action::Rsr => write!(f, "rsr"),
+            Action::Nop => write!(f, "nop"),
+            Action::Strings(operation, size, source, destination) => {
+                let word = string_word(operation);
+                let letter = letter(size);
+                write!(f, "{word}.{letter} {}, {}", StringText(source), StringText(destination))
+            }
+        }
+    }
+}
