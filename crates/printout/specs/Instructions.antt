@@ -1,5 +1,5 @@
 -- Instructions as they are written.
-use Rattle.std.specs.Prelude.{ℕ, ◌+◌, ◌%◌, ◌^◌, true, false, List, [], ◌∷◌, ◌++◌, ℤ, codes, decimal, slice_index_or, unsigned_abs}
+use Rattle.std.specs.Prelude.{ℕ, ◌+◌, ◌%◌, ◌^◌, false, List, [], ◌∷◌, ◌++◌, ℤ, codes, decimal, slice_index_or, unsigned_abs}
 use Rattle.std.specs.Fmt.{digits, sign_text}
 use Rattle.std.specs.Int.{is_negative, cast_unsigned, w32}
 use Rattle.number.specs.declared.width.Size.{Size}

@@ -1,10 +1,8 @@
 -- What is printed, as text.
-use Rattle.std.specs.Prelude.{ℕ, zero, suc, ◌*◌, ◌-◌, ◌^◌, true, false, List, [], ◌++◌, Some, None, Option, codes, decimal, flat_map}
+use Rattle.std.specs.Prelude.{ℕ, zero, suc, ◌*◌, ◌-◌, ◌^◌, true, false, List, [], ◌++◌, Some, None, Option, codes, flat_map}
 use Rattle.std.specs.Fmt.{digits, padded, padded_integral, format_spec}
 use Rattle.board.specs.declared.Right.{Right}
 use Rattle.board.specs.declared.Right.TheVariants.{NoAccess, ReadOnly, ReadWrite}
-use Rattle.bus.specs.declared.refusal.Refusal.{Refusal}
-use Rattle.bus.specs.Refusals.{number_of, place_of}
 use Rattle.printout.specs.declared.region.Region.{Region}
 use Rattle.board.specs.Block.{above, fetches}
 
@@ -15,10 +13,6 @@ hexadecimal width n = padded_integral (format_spec 32 0 4 width (2 ^ 64 - 1)) fa
 -- a byte and the address that it lies at
 abbrev pub byte_at_text : ℕ → ℕ → List ℕ
 byte_at_text address byte = hexadecimal 8 address ++ codes " " ++ hexadecimal 2 byte
-
--- a refusal's number, and its place
-abbrev pub refusal_text : Refusal → List ℕ
-refusal_text e = decimal (number_of e) ++ codes " at " ++ hexadecimal 8 (place_of e)
 
 abbrev pub right_name : Right → List ℕ
 right_name NoAccess = codes "none"

@@ -40,7 +40,12 @@ impl fmt::Display for ActionText {
             Action::Strings(operation, size, source, destination) => {
                 let word = string_word(operation);
                 let letter = letter(size);
-                write!(f, "{word}.{letter} {}, {}", StringText(source), StringText(destination))
+                write!(
+                    f,
+                    "{word}.{letter} {}, {}",
+                    StringText(source),
+                    StringText(destination)
+                )
             }
         }
     }

@@ -7,7 +7,6 @@ mod cells;
 mod listing;
 mod name;
 mod operand;
-mod refusal;
 mod region;
 mod right;
 
@@ -15,6 +14,5 @@ pub use action::ActionText;
 pub use byte_at::ByteAt;
 pub use cells::{Cells, Rows};
 pub use listing::{Line, Listing};
-pub use refusal::RefusalText;
 pub use region::{Region, Regions};
 pub use right::right_name;

@@ -3,12 +3,11 @@ ghost use Rattle.std.specs.Prelude.{◌≡◌, Some};
 ghost use Rattle.bus.specs.Seen.{Runs};
 ghost use Rattle.instruction.specs.Build.{as_decoded};
 ghost use Rattle.instruction.specs.Formats.{decode as decode_is};
-ghost use Rattle.printout.specs.Listing.{decoded_at, scratch_seen, TellsLine};
+ghost use Rattle.printout.specs.Listing.{decoded_at, scratch_seen, IsLine, TellsLine};
 ghost use Rattle.printout.specs.Lines.{code_text, line_text};
 
 use super::action::ActionText;
 use super::cells::Cells;
-use super::refusal::RefusalText;
 use board::{Board, read_block};
 use bus::{ReadLine, Refusal, StepBus, StoreBuffer};
 use instruction::{Instruction, decode};
@@ -47,6 +46,18 @@ pub struct Line {
     pub decoded: Result<Instruction, Refusal>,
 }
 
+impl Line {
+    // What stands at an address.
+    pub fn at<B: Board>(board: &B, pc: u32) -> Line
+        ensures { IsLine (B.Board.rights board.now) (B.Board.bytes board.now) pc result }
+    {
+        let mut cells = [None; LONGEST];
+        read_block(board, pc, &mut cells);
+        let decoded = decode_on(board, pc);
+        Line { pc, cells, decoded }
+    }
+}
+
 // The bytes of an instruction, in a column that is wide enough for eight.
 #[derive(Drop)]
 struct Code<'a>(&'a [Option<u8>]);
@@ -56,7 +67,7 @@ impl fmt::Display for Code<'_> {
 
     fn fmt<W: fmt::Write>(&self, f: &mut fmt::Formatter<W>) -> fmt::Result {
         write!(f, "{}", Cells(self.0))?;
-        for _missing in self.0.len()..8 {
+        for _ in 0..8usize.saturating_sub(self.0.len()) {
             write!(f, "   ")?;
         }
         Ok(())
@@ -78,7 +89,7 @@ impl fmt::Display for Line {
                 };
                 write!(f, "  {pc:08X} {code}  {action}")
             }
-            Err(refusal) => write!(f, "  {pc:08X}  refused: {}", RefusalText(refusal)),
+            Err(refusal) => write!(f, "  {pc:08X}  refused: {refusal}"),
         }
     }
 }
@@ -111,13 +122,11 @@ impl<B: Board> Iterator for Listing<'_, B> {
 
     fn next(&mut self) -> Option<Line> {
         let pc = self.next?;
-        let decoded = decode_on(self.board, pc);
-        self.next = match decoded {
+        let line = Line::at(self.board, pc);
+        self.next = match line.decoded {
             Ok(instruction) => Some(pc.wrapping_add(instruction.length())),
             Err(_) => None,
         };
-        let mut cells = [None; LONGEST];
-        read_block(self.board, pc, &mut cells);
-        Some(Line { pc, cells, decoded })
+        Some(line)
     }
 }
