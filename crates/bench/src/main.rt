@@ -2,16 +2,16 @@
 #![tactic(auto)]
 
 use board::{Board, MemoryMap, copy_block};
-use printout::{Regions, Rows, right_name};
+use printout::{Listing, Regions, Rows, right_name};
 use std::io;
 
-mod fuel_map;
-mod listing;
+mod cells;
 
 const LAST: u32 = 0xffff_ffff;
 
 // where the copies go, within the RAM
 const TABLE_COPY: u32 = unit::RAM + 0x80;
+
 const READINGS_COPY: u32 = unit::RAM + 0x90;
 
 fn print_map<B: MemoryMap>(rt: &HostRuntime, board: &B) -> io::Result<()> {
@@ -55,14 +55,23 @@ fn try_store<B: Board>(rt: &HostRuntime, board: &mut B, address: u32, byte: u8) 
 fn work<B: MemoryMap>(rt: &HostRuntime, board: &mut B) -> io::Result<()> {
     print_map(rt, board)?;
     println!(rt; "Firmware")?;
-    listing::print_listing(rt, board, unit::ROM, 16)?;
+    for line in Listing::from(&*board, unit::ROM).take(16) {
+        println!(rt; "{line}")?;
+    }
     copy(rt, board, "correction table", unit::TABLE, TABLE_COPY, 16)?;
-    copy(rt, board, "sensor readings", unit::SENSORS, READINGS_COPY, 32)?;
+    copy(
+        rt,
+        board,
+        "sensor readings",
+        unit::SENSORS,
+        READINGS_COPY,
+        32,
+    )?;
     println!(rt; "Stores")?;
     for address in [unit::RAM, unit::TABLE, LAST] {
         try_store(rt, board, address, 0x5a)?;
     }
-    fuel_map::make(rt, board)?;
+    cells::make(rt, board)?;
     println!(rt; "RAM afterwards")?;
     let rows = Rows {
         board: &*board,

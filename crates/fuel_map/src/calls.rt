@@ -1,5 +1,4 @@
 // Calls and what they answer, as text.
-use bus::Refusal;
 use history::{Call, Reply};
 use machine::Answer;
 use std::fmt;
@@ -19,17 +18,6 @@ impl fmt::Display for CallText {
     }
 }
 
-#[derive(Clone, Copy)]
-struct RefusalText(Refusal);
-
-impl fmt::Display for RefusalText {
-    fn fmt<W: fmt::Write>(&self, f: &mut fmt::Formatter<W>) -> fmt::Result {
-        let number = self.0.number();
-        let place = self.0.place();
-        write!(f, "refused: {number} at {place:08X}")
-    }
-}
-
 // How many steps were completed, and the refusal if there was one.
 #[derive(Clone, Copy)]
 pub struct AnswerText(pub Answer);
@@ -39,7 +27,7 @@ impl fmt::Display for AnswerText {
         let Answer { completed, refusal } = self.0;
         write!(f, "{completed} completed")?;
         match refusal {
-            Some(refusal) => write!(f, ", {}", RefusalText(refusal)),
+            Some(refusal) => write!(f, ", refused: {refusal}"),
             None => Ok(()),
         }
     }
@@ -52,7 +40,7 @@ impl fmt::Display for ReplyText {
     fn fmt<W: fmt::Write>(&self, f: &mut fmt::Formatter<W>) -> fmt::Result {
         match self.0 {
             Reply::Accepted => write!(f, "accepted"),
-            Reply::Refused(refusal) => write!(f, "{}", RefusalText(refusal)),
+            Reply::Refused(refusal) => write!(f, "refused: {refusal}"),
             Reply::Ran(answer) => write!(f, "{}", AnswerText(answer)),
             Reply::OutOfPlace => write!(f, "out of place"),
         }

@@ -1,13 +1,12 @@
 // The demonstration job, first step by step and then as a list of calls.
 use super::calls::{AnswerText, CallText, ReplyText};
-use super::listing::print_listing;
 use super::sheets::{Reads, Writes};
 use super::state::{ChangeText, MachineText};
 use board::Board;
 use bus::{ReadLine, WriteLine};
 use history::{Call, Reply, Session};
 use machine::Questions;
-use printout::Rows;
+use printout::{Line, Rows};
 use session::Setup;
 use std::io;
 
@@ -27,7 +26,7 @@ pub fn trace<B: Board>(rt: &HostRuntime, board: &mut B, steps: u32) -> io::Resul
     let mut running = Setup::new().start(unit::ROM);
     for _ in 0..steps {
         let before = running.machine();
-        print_listing(rt, board, before.cpu.pc, 1)?;
+        println!(rt; "{}", Line::at(&*board, before.cpu.pc))?;
         let answer = running.step(board, &mut reads, &mut writes);
         let after = running.machine();
         if answer.refusal.is_some() {

@@ -2,12 +2,11 @@
 #![tactic(auto)]
 
 use board::MemoryMap;
-use printout::Regions;
+use printout::{Listing, Regions};
 use std::io;
 
 mod calls;
 mod job;
-mod listing;
 mod sheets;
 mod state;
 
@@ -26,7 +25,9 @@ fn main(rt: HostRuntime) -> io::Result<()> {
     let mut board = unit::assemble(&image, &mut memory);
     print_map(&rt, &board)?;
     println!(rt; "Firmware")?;
-    listing::print_listing(&rt, &board, unit::ROM, 16)?;
+    for line in Listing::from(&board, unit::ROM).take(16) {
+        println!(rt; "{line}")?;
+    }
     println!(rt; "The first steps, one by one")?;
     job::trace(&rt, &mut board, 12)?;
     println!(rt; "The job, on a fresh board")?;

@@ -96,11 +96,7 @@ pub fn make<B: Board>(rt: &HostRuntime, board: &mut B) -> io::Result<()> {
         print!(rt; "  reading {reading:08X}, cell {place:08X}: ")?;
         match sheets.try_step(board, cell) {
             Ok(value) => println!(rt; "{value:04X}")?,
-            Err(refusal) => {
-                let number = refusal.number();
-                let place = refusal.place();
-                println!(rt; "refused, {number} at {place:08X}")?;
-            }
+            Err(refusal) => println!(rt; "refused, {refusal}")?,
         }
     }
     println!(rt; "Reads sheet: the bytes fetched from the board")?;
