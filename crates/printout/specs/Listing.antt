@@ -3,18 +3,12 @@ use Rattle.std.specs.Prelude.{◌≡◌, ℕ, [], Some, None, Ok, Err, Option, R
 use Rattle.board.specs.declared.Right.{Right}
 use Rattle.board.specs.Block.{above, fetches}
 use Rattle.bus.specs.declared.refusal.Refusal.{Refusal}
-use Rattle.bus.specs.declared.step.StepBus.{StepBus}
 use Rattle.bus.specs.Program.{runs}
-use Rattle.bus.specs.Seen.{Seen, step_seen}
 use Rattle.instruction.specs.declared.format.Decoded.{Decoded}
 use Rattle.instruction.specs.declared.instruction.Instruction.{Instruction}
 use Rattle.instruction.specs.Build.{as_decoded}
 use Rattle.instruction.specs.Formats.{decode}
 use Rattle.printout.specs.declared.listing.Line.{Line}
-
--- what the decoder's bus shows
-abbrev pub scratch_seen : {B : Type 0} → (B → ℕ → Right) → (B → ℕ → ℕ) → StepBus B → Seen
-scratch_seen rights bytes b = step_seen (rights b.board.now) (bytes b.board.now) b.reads b.used b.writes.now b.buffer
 
 -- what the decoder makes of the bytes from an address on
 abbrev pub decoded_at : (ℕ → Right) → (ℕ → ℕ) → ℕ → Result Decoded Refusal

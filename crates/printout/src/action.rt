@@ -9,7 +9,7 @@ use std::fmt;
 
 // An action at PC. A branch shows the address that it goes to.
 #[derive(Clone, Copy)]
-pub struct ActionText {
+pub(crate) struct ActionText {
     pub pc: u32,
     pub action: Action,
 }

@@ -22,7 +22,7 @@ impl fmt::Display for Cell {
 
 // Several of them side by side.
 #[derive(Drop)]
-pub struct Cells<'a>(pub &'a [Option<u8>]);
+pub(crate) struct Cells<'a>(pub &'a [Option<u8>]);
 
 impl fmt::Display for Cells<'_> {
     ghost output = { λ c. Some (cells_text c.0.now) };

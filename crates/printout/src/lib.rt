@@ -10,9 +10,8 @@ mod operand;
 mod region;
 mod right;
 
-pub use action::ActionText;
 pub use byte_at::ByteAt;
-pub use cells::{Cells, Rows};
+pub use cells::Rows;
 pub use listing::{Line, Listing};
 pub use region::{Region, Regions};
 pub use right::right_name;

@@ -1,9 +1,7 @@
 // Code on a board, an instruction to a line.
 ghost use Rattle.std.specs.Prelude.{◌≡◌, Some};
-ghost use Rattle.bus.specs.Seen.{Runs};
 ghost use Rattle.instruction.specs.Build.{as_decoded};
-ghost use Rattle.instruction.specs.Formats.{decode as decode_is};
-ghost use Rattle.printout.specs.Listing.{decoded_at, scratch_seen, IsLine, TellsLine};
+ghost use Rattle.printout.specs.Listing.{decoded_at, IsLine, TellsLine};
 ghost use Rattle.printout.specs.Lines.{code_text, line_text};
 
 use super::action::ActionText;
@@ -15,13 +13,6 @@ use std::fmt;
 
 // no instruction is longer
 const LONGEST: usize = 22;
-
-// The decoder on its bus.
-fn on_bus<B: Board>(bus: &mut StepBus<'_, '_, B>, pc: u32) -> Result<Instruction, Refusal>
-    ensures { Runs (decode_is pc) (scratch_seen B.Board.rights B.Board.bytes bus.old) (as_decoded pc result) (scratch_seen B.Board.rights B.Board.bytes bus.new) }
-{
-    decode(bus, pc)
-}
 
 // The instruction at an address, read onto a sheet that nobody keeps.
 fn decode_on<B: Board>(board: &B, pc: u32) -> Result<Instruction, Refusal>
@@ -35,7 +26,7 @@ fn decode_on<B: Board>(board: &B, pc: u32) -> Result<Instruction, Refusal>
         writes: &[],
         buffer: StoreBuffer::new(),
     };
-    on_bus(&mut bus, pc)
+    decode(&mut bus, pc)
 }
 
 // An address, the bytes from there on, and the instruction that they are, or why they are none.

@@ -44,7 +44,7 @@ fn two_word(operation: TwoOperation) -> &'static str
 // An instruction of two operands, with their sizes: extensions have two letters, addresses the source's, all others the
 // destination's.
 #[derive(Clone, Copy)]
-pub struct TwoName(pub TwoOperation, pub Size, pub Size);
+pub(crate) struct TwoName(pub TwoOperation, pub Size, pub Size);
 
 impl fmt::Display for TwoName {
     ghost output = { λ n. Some (two_name n.0 n.1 n.2) };
@@ -63,7 +63,7 @@ impl fmt::Display for TwoName {
 
 // An instruction of one operand. Those that work on words alone, or on an address, have no letter.
 #[derive(Clone, Copy)]
-pub struct OneName(pub OneOperation, pub Size);
+pub(crate) struct OneName(pub OneOperation, pub Size);
 
 impl fmt::Display for OneName {
     ghost output = { λ n. Some (one_name n.0 n.1) };

@@ -58,7 +58,7 @@ impl fmt::Display for AddressText {
 }
 
 #[derive(Clone, Copy)]
-pub struct OperandText(pub Operand);
+pub(crate) struct OperandText(pub Operand);
 
 impl fmt::Display for OperandText {
     ghost output = { λ x. Some (operand_text x.0) };
@@ -94,7 +94,7 @@ impl fmt::Display for LengthText {
 
 // A string's operand and its length.
 #[derive(Clone, Copy)]
-pub struct StringText(pub StringOperand);
+pub(crate) struct StringText(pub StringOperand);
 
 impl fmt::Display for StringText {
     ghost output = { λ x. Some (string_text x.0) };

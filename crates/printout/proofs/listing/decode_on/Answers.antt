@@ -14,5 +14,5 @@ returns g c =
     let w : World = record { rights = g.B.Board.rights c.args.board.now; bytes = g.B.Board.bytes c.args.board.now; writes = [] } in
     let t : List (ℕ × ℕ) → Trail = λ own. record { reads = []; own = own } in
     let bounded : Bounded 22 p = enough_bounded 22 22 p (omega arith) (enough_reads 22 p (reads_decode c.args.pc)) in
-    let comes = c.on_bus.ensures.comes (room_for 22 22 p w (t c.new.result) bounded c.new.ensures (omega arith)).0 in
-    sym (subst (λ own. (runs p w (t own)).0 ≡ as_decoded c.args.pc c.on_bus.result) c.new.ensures (ap (λ x. x.0) comes))
+    let comes = c.decode.ensures.comes (room_for 22 22 p w (t c.new.result) bounded c.new.ensures (omega arith)).0 in
+    sym (subst (λ own. (runs p w (t own)).0 ≡ as_decoded c.args.pc c.decode.result) c.new.ensures (ap (λ x. x.0) comes))
