@@ -4,14 +4,15 @@ use Rattle.board.specs.declared.Right.{Right}
 use Rattle.board.specs.Block.{above, fetches}
 use Rattle.bus.specs.declared.refusal.Refusal.{Refusal}
 use Rattle.bus.specs.Program.{runs}
-use Rattle.instruction.specs.declared.format.Decoded.{Decoded}
+use Rattle.instruction.specs.declared.action.Action.{Action}
+use Rattle.instruction.specs.declared.part.Part.{Part}
 use Rattle.instruction.specs.declared.instruction.Instruction.{Instruction}
 use Rattle.instruction.specs.Build.{as_decoded}
 use Rattle.instruction.specs.Formats.{decode}
 use Rattle.printout.specs.declared.listing.Line.{Line}
 
 -- what the decoder makes of the bytes from an address on
-abbrev pub decoded_at : (ℕ → Right) → (ℕ → ℕ) → ℕ → Result Decoded Refusal
+abbrev pub decoded_at : (ℕ → Right) → (ℕ → ℕ) → ℕ → Result (Part Action) Refusal
 decoded_at rights bytes pc = (runs (decode pc) (record { rights = rights; bytes = bytes; writes = [] }) (record { reads = []; own = [] })).0
 
 -- the address after an instruction; none where it was refused

@@ -1,9 +1,8 @@
-// What an instruction does, as code is written.
+// What an instruction does, as code is written: a name, a dot with the letters of sizes, and the operands.
 ghost use Rattle.std.specs.Prelude.{Some};
 ghost use Rattle.printout.specs.Instructions.{action_text};
 
-use super::name::{OneName, TwoName, branch_name, letter, string_word};
-use super::operand::{OperandText, StringText};
+use super::name::{OneName, TwoName, branch_name};
 use instruction::Action;
 use std::fmt;
 
@@ -21,10 +20,11 @@ impl fmt::Display for ActionText {
         match self.action {
             Action::Two(operation, from, to, first, second) => {
                 let name = TwoName(operation, from, to);
-                write!(f, "{name} {}, {}", OperandText(first), OperandText(second))
+                write!(f, "{name} {first}, {second}")
             }
             Action::One(operation, size, operand) => {
-                write!(f, "{} {}", OneName(operation, size), OperandText(operand))
+                let name = OneName(operation, size);
+                write!(f, "{name} {operand}")
             }
             Action::Branch(condition, displacement) => {
                 let name = branch_name(condition);
@@ -38,14 +38,7 @@ impl fmt::Display for ActionText {
             Action::Rsr => write!(f, "rsr"),
             Action::Nop => write!(f, "nop"),
             Action::Strings(operation, size, source, destination) => {
-                let word = string_word(operation);
-                let letter = letter(size);
-                write!(
-                    f,
-                    "{word}.{letter} {}, {}",
-                    StringText(source),
-                    StringText(destination)
-                )
+                write!(f, "{operation}.{size} {source}, {destination}")
             }
         }
     }

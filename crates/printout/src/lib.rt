@@ -6,7 +6,6 @@ mod byte_at;
 mod cells;
 mod listing;
 mod name;
-mod operand;
 mod region;
 mod right;
 

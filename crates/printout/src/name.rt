@@ -1,62 +1,25 @@
 // Instructions by name.
 ghost use Rattle.std.specs.Prelude.{◌≡◌, Some};
-ghost use Rattle.printout.specs.Instructions.{letter as letter_of, two_word as two_word_of, two_name, one_name, string_word as string_word_of, branch_name as branch_name_of};
+ghost use Rattle.printout.specs.Instructions.{two_word, one_word, branch_name as branch_name_of};
 
-use instruction::{OneOperation, StringOperation, TwoOperation};
+use instruction::{OneOperation, TwoOperation};
 use number::width::Size;
 use std::fmt;
 
-pub(crate) fn letter(size: Size) -> &'static str
-    ensures { result.now ≡ letter_of size }
-{
-    match size {
-        Size::Byte => "b",
-        Size::Halfword => "h",
-        Size::Word => "w",
-        Size::Doubleword => "d",
-    }
-}
-
-fn two_word(operation: TwoOperation) -> &'static str
-    ensures { result.now ≡ two_word_of operation }
-{
-    match operation {
-        TwoOperation::Mov => "mov",
-        TwoOperation::Movs => "movs",
-        TwoOperation::Movz => "movz",
-        TwoOperation::Movea => "movea",
-        TwoOperation::Add => "add",
-        TwoOperation::Addc => "addc",
-        TwoOperation::Sub => "sub",
-        TwoOperation::Subc => "subc",
-        TwoOperation::Cmp => "cmp",
-        TwoOperation::Neg => "neg",
-        TwoOperation::And => "and",
-        TwoOperation::Or => "or",
-        TwoOperation::Xor => "xor",
-        TwoOperation::Not => "not",
-        TwoOperation::Shl => "shl",
-        TwoOperation::Sha => "sha",
-        TwoOperation::Rot => "rot",
-    }
-}
-
-// An instruction of two operands, with their sizes: extensions have two letters, addresses the source's, all others the
-// destination's.
+// An instruction of two operands with the letters of its sizes: extensions have both, addresses the source's, all others
+// the destination's.
 #[derive(Clone, Copy)]
 pub(crate) struct TwoName(pub TwoOperation, pub Size, pub Size);
 
 impl fmt::Display for TwoName {
-    ghost output = { λ n. Some (two_name n.0 n.1 n.2) };
+    ghost output = { λ n. Some (two_word n.0 n.1 n.2) };
 
     fn fmt<W: fmt::Write>(&self, f: &mut fmt::Formatter<W>) -> fmt::Result {
-        let word = two_word(self.0);
-        let from = letter(self.1);
-        let to = letter(self.2);
-        match self.0 {
-            TwoOperation::Movs | TwoOperation::Movz => write!(f, "{word}.{from}{to}"),
-            TwoOperation::Movea => write!(f, "{word}.{from}"),
-            _ => write!(f, "{word}.{to}"),
+        let TwoName(operation, from, to) = *self;
+        match operation {
+            TwoOperation::Movs | TwoOperation::Movz => write!(f, "{operation}.{from}{to}"),
+            TwoOperation::Movea => write!(f, "{operation}.{from}"),
+            _ => write!(f, "{operation}.{to}"),
         }
     }
 }
@@ -66,33 +29,22 @@ impl fmt::Display for TwoName {
 pub(crate) struct OneName(pub OneOperation, pub Size);
 
 impl fmt::Display for OneName {
-    ghost output = { λ n. Some (one_name n.0 n.1) };
+    ghost output = { λ n. Some (one_word n.0 n.1) };
 
     fn fmt<W: fmt::Write>(&self, f: &mut fmt::Formatter<W>) -> fmt::Result {
-        let letter = letter(self.1);
-        match self.0 {
-            OneOperation::Inc => write!(f, "inc.{letter}"),
-            OneOperation::Dec => write!(f, "dec.{letter}"),
-            OneOperation::Test => write!(f, "test.{letter}"),
-            OneOperation::Push => write!(f, "push"),
-            OneOperation::Pop => write!(f, "pop"),
-            OneOperation::Jmp => write!(f, "jmp"),
-            OneOperation::Jsr => write!(f, "jsr"),
+        let OneName(operation, size) = *self;
+        match operation {
+            OneOperation::Inc | OneOperation::Dec | OneOperation::Test => {
+                write!(f, "{operation}.{size}")
+            }
+            OneOperation::Push | OneOperation::Pop | OneOperation::Jmp | OneOperation::Jsr => {
+                write!(f, "{operation}")
+            }
         }
     }
 }
 
-pub(crate) fn string_word(operation: StringOperation) -> &'static str
-    ensures { result.now ≡ string_word_of operation }
-{
-    match operation {
-        StringOperation::Movc => "movcu",
-        StringOperation::Movcf => "movcfu",
-        StringOperation::Movcs => "movcs",
-    }
-}
-
-// A branch by its condition, of whose number the low four bits count.
+// A branch by its condition, of whose number the low four bits count. The eleventh is not served.
 pub(crate) fn branch_name(condition: u8) -> &'static str
     ensures { result.now ≡ branch_name_of condition }
 {
