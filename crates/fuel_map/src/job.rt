@@ -1,10 +1,10 @@
 // The demonstration job, first step by step and then as a list of calls.
-use super::calls::{AnswerText, CallText, ReplyText};
+use super::calls::{CallText, ReplyText};
 use super::sheets::{Reads, Writes};
 use super::state::{ChangeText, MachineText};
 use board::Board;
 use bus::{ReadLine, WriteLine};
-use history::{Call, Reply, Session};
+use history::{Call, Lines, Reply, Session};
 use machine::Questions;
 use printout::{Line, Rows};
 use session::Setup;
@@ -13,6 +13,17 @@ use std::io;
 const READS: usize = 400;
 
 const WRITES: usize = 300;
+
+// both sheets whole, and a shorter reads sheet
+const WHOLE: Lines = Lines {
+    reads: READS,
+    writes: WRITES,
+};
+
+const SHORTER: Lines = Lines {
+    reads: 360,
+    writes: WRITES,
+};
 
 // The lines of a sheet from one on that are used, of so many.
 fn used<L>(sheet: &[L], from: usize, count: usize) -> &[L] {
@@ -30,7 +41,7 @@ pub fn trace<B: Board>(rt: &HostRuntime, board: &mut B, steps: u32) -> io::Resul
         let answer = running.step(board, &mut reads, &mut writes);
         let after = running.machine();
         if answer.refusal.is_some() {
-            println!(rt; "      {}", AnswerText(answer))?;
+            println!(rt; "      {answer}")?;
         }
         println!(rt; "      {}", ChangeText { before, after })?;
         let read = Reads {
@@ -52,9 +63,9 @@ const CALLS: [Call; 7] = [
     Call::Preset(31, unit::STACK),
     Call::Preset(32, 1),
     Call::Start(unit::ROM),
-    Call::Run(12, READS, WRITES),
-    Call::Run(100, READS - 40, WRITES),
-    Call::Run(100, READS, WRITES),
+    Call::Run(12, WHOLE),
+    Call::Run(100, SHORTER),
+    Call::Run(100, WHOLE),
     Call::Close,
 ];
 

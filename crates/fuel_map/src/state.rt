@@ -8,7 +8,9 @@ struct FlagsText(Flags);
 
 impl fmt::Display for FlagsText {
     fn fmt<W: fmt::Write>(&self, f: &mut fmt::Formatter<W>) -> fmt::Result {
-        let [cy, ov, s, z] = [self.0.cy, self.0.ov, self.0.s, self.0.z].map(|flag| u8::from(flag));
+        let Flags { cy, ov, s, z } = self.0;
+        let (cy, ov) = (u8::from(cy), u8::from(ov));
+        let (s, z) = (u8::from(s), u8::from(z));
         write!(f, "CY {cy} OV {ov} S {s} Z {z}")
     }
 }
@@ -46,7 +48,12 @@ impl fmt::Display for ChangeText {
         let pc = self.after.cpu.pc;
         let flags = FlagsText(self.after.cpu.flags);
         write!(f, "PC {pc:08X} {flags}")?;
-        let registers = self.before.cpu.registers.iter().zip(&self.after.cpu.registers);
+        let registers = self
+            .before
+            .cpu
+            .registers
+            .iter()
+            .zip(&self.after.cpu.registers);
         for (n, (old, new)) in registers.enumerate() {
             if old != new {
                 write!(f, " R{n} {new:08X}")?;
