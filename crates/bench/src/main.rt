@@ -14,14 +14,6 @@ const TABLE_COPY: u32 = unit::RAM + 0x80;
 
 const READINGS_COPY: u32 = unit::RAM + 0x90;
 
-fn print_map<B: MemoryMap>(rt: &HostRuntime, board: &B) -> io::Result<()> {
-    println!(rt; "Memory map")?;
-    for region in Regions::of(board) {
-        println!(rt; "{region}")?;
-    }
-    Ok(())
-}
-
 // Copies so many bytes and reads back the rows that they fill.
 fn copy<B: Board>(
     rt: &HostRuntime,
@@ -53,7 +45,10 @@ fn try_store<B: Board>(rt: &HostRuntime, board: &mut B, address: u32, byte: u8) 
 }
 
 fn work<B: MemoryMap>(rt: &HostRuntime, board: &mut B) -> io::Result<()> {
-    print_map(rt, board)?;
+    println!(rt; "Memory map")?;
+    for region in Regions::of(&*board) {
+        println!(rt; "{region}")?;
+    }
     println!(rt; "Firmware")?;
     for line in Listing::from(&*board, unit::ROM).take(16) {
         println!(rt; "{line}")?;

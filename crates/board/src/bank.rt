@@ -19,6 +19,8 @@ pub trait Cells {
     fn right(&self) -> Right
         ensures { result ≡ right };
 
+    // Why these three for each kind of cells: a slice that is lent, one that is lent to be changed and an array of readings
+    // are got at each in its own way.
     fn count(&self) -> usize
         ensures { result ≡ count self.now };
 

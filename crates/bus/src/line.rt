@@ -25,6 +25,7 @@ pub trait Line {
         ensures { result ≡ at self.now };
 }
 
+// Why an impl for each: a trait has no fields, so each line says which of its own is the address.
 impl Line for ReadLine {
     ghost at = { λ l. l.address };
 

@@ -1,11 +1,11 @@
-// Why a call was refused.
+// The reasons for which a call is refused.
 ghost use Rattle.std.specs.Prelude.{◌≡◌, Some};
 ghost use Rattle.bus.specs.Refusals.{number_of, place_of, shown};
 
 use std::error::Error;
 use std::fmt;
 
-// The reasons, each with its place where it has one.
+// Each with its place, where it has one.
 #[derive(Clone, Copy, PartialEq, Eq, Debug)]
 pub enum Refusal {
     // a byte lacks the right needed: its address

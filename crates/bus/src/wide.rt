@@ -8,6 +8,8 @@ use super::access::Bus;
 use super::refusal::Refusal;
 use number::width::{Size, Width};
 
+// Why an address and a size as parameters, and no struct of both: the one comes of an operand, the other of the instruction.
+
 // The number at an address, the lowest byte first.
 pub fn fetch_number<B: Bus>(bus: &mut B, address: u32, size: Size) -> Result<u64, Refusal>
     ensures { Runs (fetch_number (byte_count size) address) (B.Bus.seen bus.old) result (B.Bus.seen bus.new) }

@@ -29,10 +29,7 @@ fn attempt<B: Board>(
 }
 
 fn answer(rt: &HostRuntime, board: &impl Board, pc: u32) -> anyhow::Result<()> {
-    let mut reads = [ReadLine {
-        address: 0,
-        byte: 0,
-    }; 32];
+    let mut reads = [ReadLine::default(); 32];
     let (outcome, used) = attempt(board, &mut reads, pc);
     match outcome {
         Ok(instruction) => {

@@ -12,6 +12,9 @@ use number::flags::{Flags, holds};
 use number::width::Size;
 use processor::{Cpu, displaced, locate, moved, pointer, result};
 
+// Why bus, registers, operand and the next address as parameters, and no struct of them: the bus is lent to each call, and
+// the registers that one call leaves are what the next gets.
+
 // The register that points to the top of the stack.
 const STACK: u8 = 31;
 

@@ -30,7 +30,7 @@ mod told;
 use given::Case;
 
 // Where a case stands: what the processor holds, how many steps are complete, and how many lines of each sheet are used.
-#[derive(Clone, Copy)]
+#[derive(Clone, Copy, Default)]
 struct Standing {
     cpu: Cpu,
     completed: u32,
@@ -95,9 +95,7 @@ fn try_steps<B: Board>(
 ) -> anyhow::Result<()> {
     let mut standing = Standing {
         cpu: start.cpu,
-        completed: 0,
-        read: 0,
-        written: 0,
+        ..Standing::default()
     };
     for _ in 0..start.steps {
         let before = standing;
@@ -116,15 +114,8 @@ fn try_steps<B: Board>(
 
 // Tries the steps of a case on a board, with sheets that have room for them.
 fn on_sheets<B: Board>(rt: &HostRuntime, board: &mut B, start: &Case) -> anyhow::Result<()> {
-    let mut reads = [ReadLine {
-        address: 0,
-        byte: 0,
-    }; 1024];
-    let mut writes = [WriteLine {
-        step: 0,
-        address: 0,
-        byte: 0,
-    }; 1024];
+    let mut reads = [ReadLine::default(); 1024];
+    let mut writes = [WriteLine::default(); 1024];
     try_steps(rt, board, &mut reads, &mut writes, start)
 }
 
@@ -161,14 +152,10 @@ fn execute_case(rt: &HostRuntime, start: &Case) -> anyhow::Result<()> {
     on_sheets(rt, &mut board, start)
 }
 
-fn run(rt: &HostRuntime) -> anyhow::Result<()> {
+fn main(rt: HostRuntime) -> anyhow::Result<()> {
     for line in BufReader::new(rt.alloc(), rt.stdin())?.lines(rt.alloc()) {
         let start = Case::read(rt.alloc(), line?.as_str())?;
-        execute_case(rt, &start)?;
+        execute_case(&rt, &start)?;
     }
     Ok(())
-}
-
-fn main(rt: HostRuntime) -> anyhow::Result<()> {
-    run(&rt)
 }

@@ -1,7 +1,6 @@
 // The demonstration job: puts a control unit's board together, runs its firmware and prints what came of it.
 #![tactic(auto)]
 
-use board::MemoryMap;
 use printout::{Listing, Regions};
 use std::io;
 
@@ -10,20 +9,15 @@ mod job;
 mod sheets;
 mod state;
 
-fn print_map<B: MemoryMap>(rt: &HostRuntime, board: &B) -> io::Result<()> {
-    println!(rt; "Memory map")?;
-    for region in Regions::of(board) {
-        println!(rt; "{region}")?;
-    }
-    Ok(())
-}
-
 fn main(rt: HostRuntime) -> io::Result<()> {
     println!(rt; "Cefatsory bench: a fuel map, and how it comes about")?;
     let image = unit::IMAGE;
     let mut memory = [0u8; unit::RAM_BYTES];
     let mut board = unit::assemble(&image, &mut memory);
-    print_map(&rt, &board)?;
+    println!(rt; "Memory map")?;
+    for region in Regions::of(&board) {
+        println!(rt; "{region}")?;
+    }
     println!(rt; "Firmware")?;
     for line in Listing::from(&board, unit::ROM).take(16) {
         println!(rt; "{line}")?;

@@ -11,6 +11,7 @@ use machine::{Answer, Machine, Questions};
 use session::{Closed, Running, Setup};
 
 // A session in any state.
+// Why board and sheets as parameters of its calls: as with the session that runs, they are lent to each call anew.
 #[derive(PartialEq, Eq, Debug, Drop)]
 pub enum Session {
     Setup(Setup),

@@ -1,4 +1,4 @@
--- The text of operations and operands, as the manual writes them.
+-- The text of operations and operands, as they stand in assembly code.
 use Rattle.std.specs.Prelude.{ℕ, suc, ℤ, pos, negsuc, List, ◌++◌, codes, false}
 use Rattle.std.specs.Fmt.{digits, decimal}
 use Rattle.std.specs.Int.{cast_unsigned, w32}

@@ -13,6 +13,9 @@ use super::parts::{displacement, operand_at, permit};
 use bus::{Bus, Refusal};
 use number::width::Size;
 
+// Why bus, PC, and what the bytes said so far, as parameters, and no struct of them: the bus is lent to each call, and each
+// byte that is fetched adds to the rest.
+
 // The sizes and operation of an instruction of two operands.
 #[derive(Clone, Copy, PartialEq, Eq, Debug)]
 struct Pair {

@@ -28,7 +28,7 @@ pub enum Mode {
     Index(u8),
 }
 
-// Why an instruction does not take an operand.
+// The reasons for which an instruction does not take an operand.
 #[derive(Clone, Copy, PartialEq, Eq, Debug)]
 pub enum Misfit {
     Reserved,

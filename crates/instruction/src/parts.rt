@@ -11,6 +11,8 @@ use super::part::Part;
 use bus::{Bus, Refusal, fetch_number};
 use number::width::{Arithmetic, Size, Width};
 
+// Why bus, place and size as parameters, and no struct of them: the bus is lent to each call, and the place moves on with it.
+
 // The low bits of a number of that size, with their sign.
 fn sign_extended(number: u64, size: Size) -> i32
     ensures { result ≡ sign_extension size number }

@@ -1,4 +1,4 @@
-// Instructions as text, as the manual writes them.
+// Operations and operands as they stand in assembly code.
 ghost use Rattle.std.specs.Prelude.{Some};
 ghost use Rattle.instruction.specs.Text.{two_name, one_name, string_name, signed_text, displaced_text, address_text, operand_text, length_text, string_text};
 

@@ -55,6 +55,7 @@ pub fn subtract<W: Arithmetic>(dst: W, src: W, borrow: bool) -> Computed<W>
 }
 
 // The bits that an operation makes of those of both numbers, with CY as it was before.
+// Why dst, src and the flags as parameters, and no struct of them: not every operation has all three.
 fn bitwise<W: Arithmetic, F: FnOnce(u64, u64) -> u64>(
     operation: F,
     dst: W,

@@ -32,6 +32,8 @@ pub trait Width: Copy {
     // the number, without a sign
     ghost value: { Self → ℕ };
 
+    // Why each width has these three of its own: they are the conversions of its own type.
+
     // the number, without a sign
     fn to_u64(self) -> u64
         ensures number { result ≡ value self }
@@ -91,6 +93,7 @@ pub trait Width: Copy {
 // A width that has arithmetic, of at most four bytes.
 pub trait Arithmetic: Width {
     // the number turned to the left by so many bits, modulo its width
+    // Why each width has this of its own: it is the rotation of its own type.
     fn turn(self, by: u32) -> Self
         ensures number { Self.Width.value result ≡ turned (8 * Self.Width.size) (Self.Width.value self) (by % (8 * Self.Width.size)) }
         ensures less { by < 8 * Self.Width.size → Self.Width.value result ≡ turned (8 * Self.Width.size) (Self.Width.value self) by };

@@ -9,6 +9,8 @@ use bus::{ReadLine, Refusal, WriteLine};
 use machine::{Answer, Machine, Questions};
 
 // It is stepped and run beside its board and its two sheets, and closed in the end.
+// Why board and sheets as parameters, and not in here: between its calls a session holds no loan, and the next call may get
+// more lines of a sheet, or fewer.
 #[derive(PartialEq, Eq, Debug, Drop)]
 pub struct Running {
     pub(crate) machine: Machine,
