@@ -1,3 +1,4 @@
 pub mod Attempts
 pub mod Steps
 pub mod Loops
+pub mod Opening

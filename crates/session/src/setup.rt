@@ -17,6 +17,7 @@ pub struct Setup {
 
 impl Setup {
     // Opens a session: everything that it holds is 0.
+    #[tactic(auto, using(crate::proofs::Opening::default_opens))]
     pub fn new() -> Setup
         ensures { result.machine ≡ opened }
     {
