@@ -7,7 +7,7 @@ use std::io;
 
 mod cells;
 
-const LAST: u32 = 0xffff_ffff;
+const LAST: u32 = u32::MAX;
 
 // where the copies go, within the RAM
 const TABLE_COPY: u32 = unit::RAM + 0x80;

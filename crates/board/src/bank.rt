@@ -48,6 +48,7 @@ pub struct Bank<C> {
 }
 
 impl<C: Cells> Bank<C> {
+    // RAM, ROM or a sensor page, by its cells, from a base address on.
     pub fn new(base: u32, cells: C) -> Bank<C>
         ensures base { result.base ≡ base }
         ensures cells { result.cells ≡ cells }

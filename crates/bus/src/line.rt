@@ -46,7 +46,7 @@ impl Line for WriteLine {
 pub fn names<L: Line>(lines: &[L], address: u32) -> bool
     ensures { result ≡ names_in L.Line.at address lines.now }
 {
-    // Why a loop, and no `any`: every line is looked at, also after a hit.
+    // Why a loop, and no `any`: the rules of the sheets ask that every used line is looked at, also after a hit.
     let mut found = false;
     for line in lines {
         found |= line.address() == address;

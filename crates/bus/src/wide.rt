@@ -8,13 +8,14 @@ use super::access::Bus;
 use super::refusal::Refusal;
 use number::width::{Size, Width};
 
-// Why an address and a size as parameters, and no struct of both: the one comes of an operand, the other of the instruction.
+// Why an address and a size as parameters, and no struct of both: it would be made for the call alone, and taken apart in it.
 
 // The number at an address, the lowest byte first.
 pub fn fetch_number<B: Bus>(bus: &mut B, address: u32, size: Size) -> Result<u64, Refusal>
     ensures { Runs (fetch_number (byte_count size) address) (B.Bus.seen bus.old) result (B.Bus.seen bus.new) }
 {
     let mut bytes = [0; 8];
+    // Why an index for the bytes: it is the distance from the address as well.
     for i in 0..size.bytes() {
         bytes[i as usize] = bus.fetch(address.wrapping_add(i))?;
     }

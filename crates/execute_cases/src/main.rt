@@ -65,7 +65,7 @@ fn try_step<B: Board>(
     before: Standing,
 ) -> (Standing, Result<(), Refusal>) {
     let written = before.written.min(writes.len());
-    let (outcome, read, buffer) = attempt(board, reads, &writes[0..written], before);
+    let (outcome, read, buffer) = attempt(board, reads, &writes[..written], before);
     let refused = Standing { read, ..before };
     let completed = before.completed.saturating_add(1);
     match outcome {

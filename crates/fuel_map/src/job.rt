@@ -25,7 +25,7 @@ const SHORTER: Lines = Lines {
     writes: WRITES,
 };
 
-// The lines of a sheet from one on that are used, of so many.
+// The used lines of a sheet, from the line `from` on, where `count` are used.
 fn used<L>(sheet: &[L], from: usize, count: usize) -> &[L] {
     sheet.get(from..count).unwrap_or(&[])
 }

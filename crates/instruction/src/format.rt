@@ -183,6 +183,7 @@ fn string_at<B: Bus>(
 }
 
 // The string operation of a subcode.
+// Why an Option, and no TryFrom: whoever asks refuses the instruction, so that an error of its own would be thrown away.
 fn string_operation(subcode: u8) -> Option<StringOperation>
     ensures { result ≡ string_operation_of subcode }
 {

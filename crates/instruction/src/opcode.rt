@@ -22,6 +22,7 @@ pub enum Entry {
     Strings(Size),
 }
 
+// Why a static: a const of that size is laid out anew where it is used, and its check did not end.
 static OPCODES: [Option<Entry>; 256] = [
     // 00h to 0Fh
     None,

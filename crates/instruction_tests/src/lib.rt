@@ -11,15 +11,15 @@ mod tests {
     use number::width::Size;
     use std::test::Fail;
 
-    const RESERVED: Option<Refusal> = Some(Refusal::ReservedEncoding(0));
+    const RESERVED: Result<(), Refusal> = Err(Refusal::ReservedEncoding(0));
 
-    const FORBIDDEN: Option<Refusal> = Some(Refusal::ForbiddenMode(0));
+    const FORBIDDEN: Result<(), Refusal> = Err(Refusal::ForbiddenMode(0));
 
-    const NO_REGISTER: Option<Refusal> = Some(Refusal::NoSuchRegister);
+    const NO_REGISTER: Result<(), Refusal> = Err(Refusal::NoSuchRegister);
 
-    // What a caller's attempt is refused with.
-    fn refused(action: Action, length: u32) -> Option<Refusal> {
-        Instruction::new(action, length).err()
+    // Whether a caller may make an instruction, and what the attempt is refused with.
+    fn attempt(action: Action, length: u32) -> Result<(), Refusal> {
+        Instruction::new(action, length).map(|_| ())
     }
 
     fn mov(size: Size, first: Operand, second: Operand) -> Action {
@@ -51,7 +51,7 @@ mod tests {
         let indexed = mov(Size::Word, index, Operand::Register(0));
         let string = movc(Length::Literal(3), Length::Register(32));
         for (action, length) in [(high, 3), (indexed, 0), (string, 6)] {
-            assert_eq!(rt; refused(action, length), NO_REGISTER);
+            assert_eq!(rt; attempt(action, length), NO_REGISTER);
         }
     }
 
@@ -63,26 +63,26 @@ mod tests {
         let double = mov(Size::Doubleword, one, five);
         let inc = Action::One(OneOperation::Inc, Size::Byte, one);
         for (action, length) in [(word, 3), (double, 30), (inc, 2)] {
-            assert_eq!(rt; refused(action, length), FORBIDDEN);
+            assert_eq!(rt; attempt(action, length), FORBIDDEN);
         }
     }
 
     #[test]
     fn doublewords_have_no_immediate_and_no_r31(rt: HostRuntime) {
-        for (first, refusal) in [
+        for (first, answer) in [
             (Operand::Immediate(5), RESERVED),
             (Operand::Register(31), RESERVED),
-            (Operand::Register(30), None),
+            (Operand::Register(30), Ok(())),
         ] {
             let action = mov(Size::Doubleword, first, Operand::Register(2));
-            assert_eq!(rt; refused(action, 3), refusal);
+            assert_eq!(rt; attempt(action, 3), answer);
         }
     }
 
     #[test]
     fn lengths_are_1_to_22(rt: HostRuntime) {
-        for (length, refusal) in [(0, RESERVED), (1, None), (22, None), (23, RESERVED)] {
-            assert_eq!(rt; refused(Action::Nop, length), refusal);
+        for (length, answer) in [(0, RESERVED), (1, Ok(())), (22, Ok(())), (23, RESERVED)] {
+            assert_eq!(rt; attempt(Action::Nop, length), answer);
         }
     }
 
@@ -98,16 +98,16 @@ mod tests {
         let jump = Action::One(OneOperation::Jmp, Size::Byte, Operand::Immediate(1));
         let wide = mov(Size::Byte, Operand::Immediate(0x100), Operand::Register(1));
         let long = Length::Literal(128);
-        for (action, length, refusal) in [
+        for (action, length, answer) in [
             (movea, 3, RESERVED),
             (jump, 2, RESERVED),
             (wide, 4, RESERVED),
             (Action::Branch(11, 0), 2, RESERVED),
             (Action::Branch(10, 0x8000), 3, RESERVED),
-            (Action::Branch(10, -0x8000), 3, None),
+            (Action::Branch(10, -0x8000), 3, Ok(())),
             (movc(long, long), 6, RESERVED),
         ] {
-            assert_eq!(rt; refused(action, length), refusal);
+            assert_eq!(rt; attempt(action, length), answer);
         }
     }
 }

@@ -6,6 +6,7 @@ use bus::Refusal;
 use std::fmt;
 
 // How many steps a call completed, and why it went no further, if it did not.
+// Why an Option, and no Result: a run that was refused has completed steps to tell of, too.
 #[derive(Clone, Copy, PartialEq, Eq, Debug)]
 pub struct Answer {
     pub completed: u32,

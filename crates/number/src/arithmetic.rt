@@ -1,4 +1,5 @@
 // Sums, differences and logic, with their flags.
+// Why dst, src and the flags before as parameters, and no struct of them: not every operation has all three.
 ghost use Rattle.std.specs.Prelude.{◌≡◌, ℕ, false, ◌*◌, ◌^◌, ◌<◌, pos, ◌+ℤ◌, ◌-ℤ◌};
 ghost use Rattle.std.specs.Int.{from_bool};
 ghost use Rattle.number.specs.Words.{signed, fits as fits_in};
@@ -55,7 +56,6 @@ pub fn subtract<W: Arithmetic>(dst: W, src: W, borrow: bool) -> Computed<W>
 }
 
 // The bits that an operation makes of those of both numbers, with CY as it was before.
-// Why dst, src and the flags as parameters, and no struct of them: not every operation has all three.
 fn bitwise<W: Arithmetic, F: FnOnce(u64, u64) -> u64>(
     operation: F,
     dst: W,

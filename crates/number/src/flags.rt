@@ -25,7 +25,7 @@ impl From<Flags> for u8 {
 }
 
 // For each condition, where it holds: bit k says whether it does at the flags whose number is k.
-// Why a table of numbers, and no `match`: its rule is proved once, of all entries together.
+// Why a table of numbers, and no `match`: the rules number the conditions, and one computation shows all sixteen to be right.
 const HOLDS: [u16; 16] = [
     0xf0f0, // OV
     0x0f0f, // not OV

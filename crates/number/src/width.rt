@@ -26,7 +26,7 @@ pub trait Width: Copy {
 
     ghost SIGN: { ℕ };
 
-    // how many bytes it has
+    // how many bytes it has, as clauses name it
     ghost size: { ℕ };
 
     // the number, without a sign
@@ -49,7 +49,7 @@ pub trait Width: Copy {
         ensures number { value result ≡ n % 2 ^ (8 * size) }
         ensures exact { n < 2 ^ (8 * size) → value result ≡ n };
 
-    // how many bytes it has
+    // the constant, for who asks by a call
     final fn byte_count() -> u32
         ensures count { result ≡ size }
         ensures least { 1 ≤ result }
@@ -58,7 +58,7 @@ pub trait Width: Copy {
         Self::BYTES
     }
 
-    // its top bit
+    // the constant, for who asks by a call
     final fn sign_bit() -> u64
         ensures power { result ≡ 2 ^ (8 * size - 1) }
         ensures half { result + result ≡ 2 ^ (8 * size) }

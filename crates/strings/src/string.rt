@@ -152,7 +152,7 @@ impl Transfer {
         Ok(self.done(cpu, count, self.destination_length, next))
     }
 
-    // MOVCS: as many characters as the shorter string has at the most.
+    // MOVCS: at most as many characters as the shorter string has, up to the stop character.
     fn halted<B: Bus>(self, bus: &mut B, cpu: Cpu, next: u32) -> Result<Cpu, Refusal>
         ensures { Runs (halted_is cpu self.size self.from self.to (min self.source_length self.destination_length) next) (B.Bus.seen bus.old) result (B.Bus.seen bus.new) }
     {

@@ -39,9 +39,11 @@ impl StoreBuffer {
         if !fits(used, self.len, writes.len()) {
             return false;
         }
+        // Why an index for the lines: of a slice that an iterator lends out to be written, the prover knows no longer what it holds.
         for (i, byte) in self.bytes[..self.len].iter().enumerate() {
             let byte = *byte;
             let address = self.base.wrapping_add(i as u32);
+            // the step has asked for the right to each of them
             let _ = board.store(address, byte);
             writes[used + i] = WriteLine {
                 step,
