@@ -21,12 +21,8 @@ fn next_word<'a>(words: &mut SplitWhitespace<'a>) -> anyhow::Result<&'a str> {
 
 fn read_flags(word: &str) -> anyhow::Result<Flags> {
     let number = u8::from_str_radix(word, 2)?;
-    Ok(Flags {
-        cy: number & 8 != 0,
-        ov: number & 4 != 0,
-        s: number & 2 != 0,
-        z: number & 1 != 0,
-    })
+    let [cy, ov, s, z] = [8, 4, 2, 1].map(|bit| number & bit != 0);
+    Ok(Flags { cy, ov, s, z })
 }
 
 // What the processor holds where a case says nothing.

@@ -63,12 +63,8 @@ fn size(bits: &str) -> anyhow::Result<Size> {
 }
 
 fn flags(number: u64) -> Flags {
-    Flags {
-        cy: number & 8 != 0,
-        ov: number & 4 != 0,
-        s: number & 2 != 0,
-        z: number & 1 != 0,
-    }
+    let [cy, ov, s, z] = [8, 4, 2, 1].map(|bit| number & bit != 0);
+    Flags { cy, ov, s, z }
 }
 
 fn computed<W: Arithmetic>(case: &Case) -> anyhow::Result<Computed<W>> {
