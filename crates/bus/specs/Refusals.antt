@@ -35,5 +35,5 @@ abbrev pub eight_digits : ℕ → List ℕ
 eight_digits n = replicate (8 - length (digits 16 true n)) 48 ++ digits 16 true n
 
 -- what a refusal prints: its number, and its place
-abbrev pub shown : Refusal → List ℕ
-shown r = decimal (number_of r) ++ (codes " at " ++ eight_digits (place_of r))
+abbrev pub refusal_text : Refusal → List ℕ
+refusal_text r = decimal (number_of r) ++ (codes " at " ++ eight_digits (place_of r))

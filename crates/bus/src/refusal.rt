@@ -1,11 +1,10 @@
-// The reasons for which a call is refused.
 ghost use Rattle.std.specs.Prelude.{◌≡◌, Some};
-ghost use Rattle.bus.specs.Refusals.{number_of, place_of, shown};
+ghost use Rattle.bus.specs.Refusals.{number_of, place_of, refusal_text};
 
 use std::error::Error;
 use std::fmt;
 
-// Each with its place, where it has one.
+// The reasons for which a call is refused, each with its place where it has one.
 #[derive(Clone, Copy, PartialEq, Eq, Debug)]
 pub enum Refusal {
     // a byte lacks the right needed: its address
@@ -76,7 +75,7 @@ impl Refusal {
 
 // The number and the place, as the programs print them.
 impl fmt::Display for Refusal {
-    ghost output = { λ r. Some (shown r) };
+    ghost output = { λ r. Some (refusal_text r) };
 
     fn fmt<W: fmt::Write>(&self, f: &mut fmt::Formatter<W>) -> fmt::Result {
         let number = self.number();

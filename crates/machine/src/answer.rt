@@ -31,9 +31,9 @@ impl Answer {
 
 // The steps, and the refusal if there is one, as the programs print them.
 impl fmt::Display for Answer {
-    ghost use Rattle.machine.specs.Shown.{answer_shown};
+    ghost use Rattle.machine.specs.Shown.{answer_text};
 
-    ghost output = { λ a. Some (answer_shown a) };
+    ghost output = { λ a. Some (answer_text a) };
 
     fn fmt<W: fmt::Write>(&self, f: &mut fmt::Formatter<W>) -> fmt::Result {
         let completed = self.completed;

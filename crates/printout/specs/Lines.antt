@@ -1,7 +1,7 @@
 -- Lines of a listing, as text.
 use Rattle.std.specs.Prelude.{ℕ, ◌*◌, ◌-◌, List, ◌++◌, length, take, replicate, Ok, Err, Option, Result, codes}
 use Rattle.bus.specs.declared.refusal.Refusal.{Refusal}
-use Rattle.bus.specs.Refusals.{shown}
+use Rattle.bus.specs.Refusals.{refusal_text}
 use Rattle.instruction.specs.declared.instruction.Instruction.{Instruction}
 use Rattle.printout.specs.declared.listing.Line.{Line}
 use Rattle.printout.specs.Text.{hexadecimal, cells_text}
@@ -14,7 +14,7 @@ code_text cells = cells_text cells ++ replicate (3 * (8 - length cells)) 32
 -- what stands behind the address: the code and the instruction, or the refusal
 abbrev pub decoded_text : ℕ → List (Option ℕ) → Result Instruction Refusal → List ℕ
 decoded_text pc cells (Ok i) = codes " " ++ code_text (take i.length cells) ++ codes "  " ++ action_text pc i.action
-decoded_text pc cells (Err e) = codes "  refused: " ++ shown e
+decoded_text pc cells (Err e) = codes "  refused: " ++ refusal_text e
 
 abbrev pub line_text : Line → List ℕ
 line_text l = codes "  " ++ hexadecimal 8 l.pc ++ decoded_text l.pc l.cells l.decoded
