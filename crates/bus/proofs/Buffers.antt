@@ -1,7 +1,7 @@
 -- Laws of the store buffer.
-use Rattle.std.proofs.Common.{◌≡◌, ℕ, zero, suc, ◌+◌, ◌-◌, ◌^◌, ◌<◌, ◌≤◌, true, cond, ◌&&◌, ◌||◌, eqb, ltb, ◌⊎◌, List, [], ◌∷◌, ◌++◌, length, get_or, take, set, Some, None, Option, sym, refl, ap, ◌∙◌, inl, inr, arith}
+use Rattle.std.proofs.Common.{◌≡◌, ℕ, zero, suc, ◌+◌, ◌-◌, ◌^◌, ◌<◌, ◌≤◌, true, cond, ◌&&◌, ◌||◌, eqb, ltb, ◌⊎◌, List, [], ◌∷◌, ◌++◌, length, get_or, take, drop, replicate, set, Some, None, Option, sym, refl, ap, ◌∙◌, inl, inr, arith}
 use Rattle.std.proofs.lemmas.Bool.{eq-eqb, ne_eqb, cases_eq, and_parts, eqb-true, ltb-true}
-use Rattle.std.proofs.lemmas.List.{take_more_set, length-take-le}
+use Rattle.std.proofs.lemmas.List.{take_more_set, length-take-le, length-set, drop-set-lt, drop-drop, drop-replicate}
 use Rattle.std.proofs.lemmas.Option.{slice_get-get_or, slice_get_read}
 use Rattle.std.specs.Borrow.{Bor}
 use Rattle.std.specs.Option.{option_copied}
@@ -9,6 +9,7 @@ use Rattle.std.specs.Slice.{IsItemAt}
 use Rattle.board.specs.Block.{above}
 use Rattle.bus.specs.Sheets.{latest}
 use Rattle.bus.specs.Buffer.{cells, buffered, last_set, offset, joins, OneRun}
+use Rattle.bus.specs.Form.{OneForm, length_buffered}
 use Rattle.std.proofs.lemmas.Bool.Decides.{nat_tests}
 
 -- one byte more at the end
@@ -63,6 +64,17 @@ buffer_push base n a b bytes h e =
     ∙ (cells_push base 0 (take n bytes) b
     ∙ ap (λ x. cells base 0 (take n bytes) ++ ((x, b) ∷ [])) (ap (above base) l ∙ e))
 
+-- and what is not used stays 0
+pub form_push : (base base' n b : ℕ) (bytes : List ℕ) → base' < 2 ^ 32 → n < 256 → OneForm base n bytes → OneForm base' (n + 1) (set bytes n b)
+form_push base base' n b bytes l r h = record {
+  low = l;
+  few = omega (arith, r);
+  all = length-set bytes n b ∙ h.all;
+  unused = drop-set-lt (n + 1) bytes n b (omega arith)
+      ∙ (sym (drop-drop 1 n bytes) ∙ (ap (drop 1) h.unused ∙ (drop-replicate 1 (256 - n) 0 ∙ ap (λ k. replicate k 0) (omega arith))));
+  unset = λ z. absurd (omega (arith, z));
+}
+
 -- the front of a run is a run
 pub cells_front : (base i : ℕ) (xs ys : List (ℕ × ℕ)) (bs : List ℕ) → xs ++ ys ≡ cells base i bs → (cs : List ℕ) × (length cs ≤ length bs) × (xs ≡ cells base i cs)
 cells_front base i [] ys bs e = ([], omega arith, refl)
@@ -72,13 +84,6 @@ cells_front base i (x ∷ xs) ys (b ∷ bs) e =
     let t : xs ++ ys ≡ cells base (suc i) bs = cc in
     let r = cells_front base (suc i) xs ys bs t in
     (b ∷ r.0, omega (arith, r.1), (λ j. h j ∷ r.2 j))
-
-pub length_cells : (base i : ℕ) (bs : List ℕ) → length (cells base i bs) ≡ length bs
-length_cells base i [] = refl
-length_cells base i (b ∷ bs) = ap suc (length_cells base (suc i) bs)
-
-pub length_buffered : (base n : ℕ) (bytes : List ℕ) → n ≤ length bytes → length (buffered base n bytes) ≡ n
-length_buffered base n bytes h = length_cells base 0 (take n bytes) ∙ length-take-le n bytes h
 
 -- ---- bytes that stay one run join the bytes that are set
 first_cell : (base : ℕ) (c : ℕ × ℕ) (xs : List (ℕ × ℕ)) (bs : List ℕ) → base < 2 ^ 32 → c ∷ xs ≡ cells base 0 bs → c.0 ≡ base

@@ -1,6 +1,7 @@
 pub mod Refusals
 pub mod Sheets
 pub mod Buffer
+pub mod Form
 pub mod Program
 pub mod Seen
 pub mod Bound

@@ -10,23 +10,32 @@ const CAPACITY: usize = 256;
 
 // Bytes that a step has set and that wait for it to be accepted: a run from one address on.
 // Why an array with a length, and no Vec: a step allocates nothing.
-#[derive(Drop)]
+#[derive(Clone, Copy, Debug)]
 pub struct StoreBuffer {
     base: u32,
     len: usize,
     bytes: [u8; 256],
 }
 
-// Clauses see the bytes set, each with its address, in order.
+// Clauses see the bytes set, each with its address, in order: they tell the fields, since what is not used stays 0.
 impl Model for StoreBuffer {
-    ghost use Rattle.std.specs.Prelude.{ℕ, ◌≤◌, List};
+    ghost use Rattle.std.specs.Prelude.{ℕ, List, length};
     ghost use Rattle.bus.specs.Buffer.{buffered};
+    ghost use Rattle.bus.specs.Form.{OneForm, base_of, bytes_of, base_again, length_again, bytes_again};
 
     ghost Value = { List (ℕ × ℕ) };
 
     ghost view = { λ b. buffered b.base b.len b.bytes };
 
-    ghost invariant = { λ b. b.len ≤ 256 };
+    ghost invariant = { λ b. OneForm b.base b.len b.bytes };
+
+    ghost inverse = { λ cs. record { base = base_of cs; len = length cs; bytes = bytes_of cs } };
+
+    ghost inverse_ok = { λ b h i. record {
+      base = base_again b.base b.len b.bytes h i;
+      len = length_again b.base b.len b.bytes h i;
+      bytes = bytes_again b.base b.len b.bytes h i;
+    } };
 }
 
 impl StoreBuffer {

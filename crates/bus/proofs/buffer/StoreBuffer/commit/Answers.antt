@@ -4,7 +4,7 @@ use Rattle.board.specs.Block.{above}
 use Rattle.bus.specs.declared.line.WriteLine.{WriteLine}
 use Rattle.bus.specs.Buffer.{buffered, cells}
 use Rattle.bus.specs.Commit.{stores, write_lines, has_room}
-use Rattle.bus.proofs.Buffers.{length_buffered}
+use Rattle.bus.specs.Form.{length_buffered}
 use Rattle.bus.proofs.Commits.{stores_more, lines_more, length_lines, entered_by}
 use Rattle.bus.proofs.buffer.StoreBuffer.commit.Goals as goal
 

@@ -1,5 +1,5 @@
 use Rattle.std.proofs.Common.{length, sym, ap, ◌∙◌, rules}
-use Rattle.bus.proofs.Buffers.{length_buffered}
+use Rattle.bus.specs.Form.{length_buffered}
 use Rattle.bus.proofs.buffer.StoreBuffer.len.Goals as goal
 
 pub returns-clause-count : goal.returns-clause-count

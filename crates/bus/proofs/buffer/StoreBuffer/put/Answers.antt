@@ -1,7 +1,8 @@
-use Rattle.std.proofs.Common.{◌≡◌, ◌+◌, ◌<◌, cond, eqb, [], ◌∷◌, ◌++◌, length, set, sym, ap, ◌∙◌, arith, rules}
+use Rattle.std.proofs.Common.{◌≡◌, ℕ, ◌+◌, ◌^◌, ◌<◌, cond, eqb, [], ◌∷◌, ◌++◌, length, set, sym, ap, subst, ◌∙◌, rules}
 use Rattle.std.proofs.lemmas.Bool.{eq-eqb, ne_eqb}
 use Rattle.bus.specs.Buffer.{buffered, joins}
-use Rattle.bus.proofs.Buffers.{one_run_joins, join_room, joined_there}
+use Rattle.bus.specs.Form.{OneForm}
+use Rattle.bus.proofs.Buffers.{form_push, one_run_joins, join_room, joined_there}
 use Rattle.bus.proofs.buffer.StoreBuffer.put.Goals as goal
 use Rattle.bus.proofs.buffer.StoreBuffer.put.Goals.{then-self-eq0, else-self-eq0}
 
@@ -19,7 +20,11 @@ invariant_of-self c =
     let s = c.self.inside in
     let a = c.args.address in
     let room = join_room s.base s.len a s.bytes (search rules) (ap (λ cs. joins cs a) c.self.view_is ∙ sym c.if-not-may_join.ensures) in
-    elim c.if-self-eq0.branch [ then-self-eq0 w ↦ omega (arith, room, ap (λ u. u.len) w.self-inside-is) | else-self-eq0 w ↦ omega (arith, room, ap (λ u. u.len) w.self-inside-is) ]
+    let there = λ (base : ℕ) (l : base < 2 ^ 32). form_push s.base base s.len c.args.byte s.bytes l room c.self.invariant in
+    elim c.if-self-eq0.branch [
+      | then-self-eq0 w ↦ subst (λ u. OneForm u.base (u.len + 1) u.bytes) (sym w.self-inside-is) (there a (search rules))
+      | else-self-eq0 w ↦ subst (λ u. OneForm u.base (u.len + 1) u.bytes) (sym w.self-inside-is) (there s.base c.self.invariant.low)
+    ]
 
 pub returns-clause-after : goal.returns-clause-after
 returns-clause-after c =
