@@ -7,9 +7,9 @@ use super::action::{Action, Length, StringOperand};
 use super::mode::register_verdict;
 use super::opcode::{Entry, look_up};
 use super::operand::Operand;
+use super::operands::{displacement, operand_at, permit};
 use super::operation::{Access, OneOperation, StringOperation, TwoOperation};
 use super::part::Part;
-use super::parts::{displacement, operand_at, permit};
 use bus::{Bus, Refusal};
 use number::width::Size;
 

@@ -9,9 +9,9 @@ mod make;
 mod mode;
 mod opcode;
 mod operand;
+mod operands;
 mod operation;
 mod part;
-mod parts;
 mod text;
 
 pub use action::{Action, Length, StringOperand};
@@ -22,6 +22,6 @@ pub use make::admit;
 pub use mode::{Misfit, Mode, Shape, immediate_verdict, mode_of, plain_mode, register_verdict};
 pub use opcode::{Entry, look_up};
 pub use operand::{Address, Base, Operand};
+pub use operands::{displacement, locate, operand_at, permit};
 pub use operation::{Access, OneOperation, StringOperation, TwoOperation};
 pub use part::Part;
-pub use parts::{displacement, locate, operand_at, permit};

@@ -1,4 +1,4 @@
-// The parts of an instruction's code that are operands.
+// Operands in the code of an instruction.
 ghost use Rattle.std.specs.Prelude.{◌≡◌};
 ghost use Rattle.bus.specs.Seen.{Runs};
 ghost use Rattle.instruction.specs.Decode.{sign_extended as sign_extension, displacement as displacement_is, shape_at, judged, shape_of, indexed_at, double_at, immediate_at, by_mode, operand_at as operand_is};

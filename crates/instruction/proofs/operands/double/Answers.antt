@@ -1,7 +1,7 @@
 use Rattle.std.proofs.Common.{◌≡◌, w32, to_z, of_z, rules}
 use Rattle.bus.proofs.Laws.{goes_on, ends_at, gives, hands_on}
 use Rattle.instruction.specs.Decode.{double_at}
-use Rattle.instruction.proofs.parts.double.Goals as goal
+use Rattle.instruction.proofs.operands.double.Goals as goal
 
 pub returns-in_err-inner : goal.returns-in_err-inner
 unfolding double_at

@@ -1,7 +1,7 @@
 use Rattle.std.proofs.Common.{◌≡◌, w32, to_z, of_z, rules}
 use Rattle.bus.proofs.Laws.{goes_on, ends_at, gives, hands_on}
 use Rattle.instruction.specs.Decode.{displacement}
-use Rattle.instruction.proofs.parts.displacement.Goals as goal
+use Rattle.instruction.proofs.operands.displacement.Goals as goal
 
 pub returns-in_err-number : goal.returns-in_err-number
 unfolding displacement

@@ -1,7 +1,7 @@
 use Rattle.bus.proofs.Laws.{goes_on, ends_at, hands_on}
 use Rattle.instruction.specs.Decode.{operand_at}
 use Rattle.instruction.proofs.Permits.{picks}
-use Rattle.instruction.proofs.parts.operand_at.Goals as goal
+use Rattle.instruction.proofs.operands.operand_at.Goals as goal
 
 pub returns-in_err-byte : goal.returns-in_err-byte
 unfolding operand_at

@@ -2,7 +2,7 @@ use Rattle.std.proofs.Common.{refl}
 use Rattle.bus.proofs.Laws.{goes_on, ends_at, gives, hands_on, by_case}
 use Rattle.instruction.specs.Decode.{by_mode}
 use Rattle.instruction.proofs.Permits.{permits}
-use Rattle.instruction.proofs.parts.by_mode.Goals as goal
+use Rattle.instruction.proofs.operands.by_mode.Goals as goal
 
 pub returns-in_err-located-in-At : goal.returns-in_err-located-in-At
 unfolding by_mode

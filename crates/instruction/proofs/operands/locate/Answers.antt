@@ -1,7 +1,7 @@
 use Rattle.std.proofs.Common.{◌≡◌, refl, w32, to_z, of_z, rules}
 use Rattle.bus.proofs.Laws.{goes_on, ends_at, gives, hands_on, by_case}
 use Rattle.instruction.specs.Decode.{shape_at}
-use Rattle.instruction.proofs.parts.locate.Goals as goal
+use Rattle.instruction.proofs.operands.locate.Goals as goal
 
 pub returns-in-Indirect : goal.returns-in-Indirect
 unfolding shape_at

@@ -1,6 +1,6 @@
 use Rattle.bus.proofs.Laws.{goes_on, ends_at, gives, hands_on}
 use Rattle.instruction.specs.Decode.{immediate_at}
-use Rattle.instruction.proofs.parts.immediate.Goals as goal
+use Rattle.instruction.proofs.operands.immediate.Goals as goal
 
 pub returns-in_err-number : goal.returns-in_err-number
 unfolding immediate_at

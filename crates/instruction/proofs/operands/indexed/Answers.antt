@@ -2,7 +2,7 @@ use Rattle.std.proofs.Common.{refl}
 use Rattle.bus.proofs.Laws.{goes_on, ends_at, gives, hands_on}
 use Rattle.instruction.specs.Decode.{indexed_at}
 use Rattle.instruction.proofs.Permits.{picks}
-use Rattle.instruction.proofs.parts.indexed.Goals as goal
+use Rattle.instruction.proofs.operands.indexed.Goals as goal
 
 pub returns-in_err-byte : goal.returns-in_err-byte
 unfolding indexed_at
