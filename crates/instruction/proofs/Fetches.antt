@@ -25,7 +25,7 @@ use Rattle.instruction.specs.declared.opcode.Entry.{Entry}
 use Rattle.instruction.specs.declared.opcode.Entry.TheVariants.{Two, One, Branch, Bsr, Rsr, Nop, Strings}
 use Rattle.instruction.specs.Modes.{plain_mode, mode_of}
 use Rattle.instruction.specs.Decode.{displacement, shape_at, judged, permit, shape_of, indexed_at, double_at, immediate_at, by_mode, operand_at}
-use Rattle.instruction.specs.Formats.{register_and_mode, two_modes, two_by, two_operands, one_operand, length_of, length_at, string_at, strings_by, string_instruction, by_entry, decode}
+use Rattle.instruction.specs.Formats.{register_first, register_second, two_modes, two_by, two_operands, one_operand, length_of, length_at, string_at, strings_by, string_instruction, by_entry, decode}
 use Rattle.instruction.specs.Lawful.{base_named}
 use Rattle.instruction.proofs.Fine.{narrow, narrow_few, fine_shape, fine_mode, Good, plain_fine, mode_fine, shape_of_fine, bytes_few}
 
@@ -90,10 +90,12 @@ module _ (p : ℕ) (s : Size) (a : Access) where
 
 module _ (pc : ℕ) where
   reads_two_by : (o : TwoOperation) (s t : Size) (b : ℕ) → Reads 18 (two_by pc o s t b)
-  unfolding two_by register_and_mode two_modes
+  unfolding two_by register_first register_second two_modes
   reads_two_by o s t b =
       reads_if 18 (ltb b 128) _ _
-      (λ _. chain 0 9 18 _ _ (omega arith) (reads_permit (above pc 1) _) (λ _. chain 9 0 9 _ _ (omega arith) (reads_operand (above pc 2) _ _ (bit 6 b)) (λ x. reads_give 0 _)))
+      (λ _. reads_if 18 (bit 5 b) _ _
+      (λ _. chain 0 9 18 _ _ (omega arith) (reads_permit (above pc 1) _) (λ _. chain 9 0 9 _ _ (omega arith) (reads_operand (above pc 2) s _ (bit 6 b)) (λ x. reads_give 0 _)))
+      (λ _. chain 0 9 18 _ _ (omega arith) (reads_permit (above pc 1) _) (λ _. chain 9 0 9 _ _ (omega arith) (reads_operand (above pc 2) t _ (bit 6 b)) (λ x. reads_give 0 _))))
       (λ _. reads_if 18 (eqb (b % 32) 0) _ _
       (λ _. chain 9 9 18 _ _ (omega arith) (reads_operand (above pc 2) s _ (bit 6 b)) (λ x. chain 9 0 9 _ _ (omega arith) (reads_operand x.next t _ (bit 5 b)) (λ y. reads_give 0 _)))
       (λ _. reads_refuse _ 18 _))

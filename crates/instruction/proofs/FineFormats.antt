@@ -31,7 +31,7 @@ use Rattle.instruction.specs.Operations.{first_access, second_access, one_access
 use Rattle.instruction.specs.Modes.{register_verdict}
 use Rattle.instruction.specs.Opcodes.{served, look_up, entry}
 use Rattle.instruction.specs.Decode.{sign_extended, displacement}
-use Rattle.instruction.specs.Formats.{register_and_mode, two_modes, two_by, two_operands, one_operand, length_of, length_at, string_at, strings_by, string_instruction, by_entry, decode}
+use Rattle.instruction.specs.Formats.{register_first, register_second, two_modes, two_by, two_operands, one_operand, length_of, length_at, string_at, strings_by, string_instruction, by_entry, decode}
 use Rattle.instruction.specs.Lawful.{operand_named, length_named, string_named, writes, is_immediate, operand_taken, sizes_served, size_served, length_taken, lawful}
 use Rattle.instruction.proofs.Fine.{Taken, operand_fine, permit_fine, not_written, above_above, values_any, values_some}
 
@@ -84,13 +84,16 @@ module _ (pc : ℕ) (low : pc < 2 ^ 32) where
       (λ i. (a i && b i) && (not (e i) && ((f i && (c i && d i)) && within_22 (offset pc next) (omega arith) (omega arith) i)))
 
   module _ (o : TwoOperation) (s t : Size) (f : sizes_served o (byte_count s) (byte_count t) ≡ true) where
-    register_made : (d m : Bool) (n : ℕ) → ltb n 32 ≡ true → Gives Made (register_and_mode pc o s t d m n)
-    unfolding register_and_mode
-    register_made false m n h =
+    first_made : (m : Bool) (n : ℕ) → ltb n 32 ≡ true → Gives Made (register_first pc o s t m n)
+    unfolding register_first
+    first_made m n h =
         values_bind (λ _. is_ok (register_verdict (first_access o) s n) ≡ true) Made _ _ (permit_fine (above pc 1) (register_verdict (first_access o) s n)) (λ _ v.
         values_bind (Taken (above pc 2) t (second_access o)) Made _ _ (operand_fine (above pc 2) t (second_access o) m) (λ x q.
         values_give Made _ (two_made o s t f (register n) x.value h q.named v q.taken q.unwritten (2 + q.far) x.next (omega arith) (omega (arith, q.few)) (q.next ∙ above_above pc 2 q.far))))
-    register_made true m n h =
+
+    second_made : (m : Bool) (n : ℕ) → ltb n 32 ≡ true → Gives Made (register_second pc o s t m n)
+    unfolding register_second
+    second_made m n h =
         values_bind (λ _. is_ok (register_verdict (second_access o) t n) ≡ true) Made _ _ (permit_fine (above pc 1) (register_verdict (second_access o) t n)) (λ _ v.
         values_bind (Taken (above pc 2) s (first_access o)) Made _ _ (operand_fine (above pc 2) s (first_access o) m) (λ x q.
         values_give Made _ (two_made o s t f x.value (register n) q.named h q.taken v (not_written (second_access o)) (2 + q.far) x.next (omega arith) (omega (arith, q.few)) (q.next ∙ above_above pc 2 q.far))))
@@ -108,7 +111,7 @@ module _ (pc : ℕ) (low : pc < 2 ^ 32) where
     two_by_made b =
         let h : ltb (b % 32) 32 ≡ true = lt-ltb (b % 32) 32 (omega arith) in
         values_if Made (ltb b 128) _ _
-        (λ _. register_made (bit 5 b) (bit 6 b) (b % 32) h)
+        (λ _. values_if Made (bit 5 b) _ _ (λ _. second_made (bit 6 b) (b % 32) h) (λ _. first_made (bit 6 b) (b % 32) h))
         (λ _. values_if Made (eqb (b % 32) 0) _ _ (λ _. modes_made (bit 6 b) (bit 5 b)) (λ _. values_refuse Made _))
 
     two_operands_made : Gives Made (two_operands pc o s t)

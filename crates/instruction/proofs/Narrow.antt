@@ -1,5 +1,5 @@
 -- The characters of the strings that the decoder gives have at most two bytes, whatever it is answered.
-use Rattle.std.proofs.Common.{◌≡◌, ℕ, ◌%◌, ◌≤◌, eqb, ltb, Bool, true, false, Some, None, Option, refl, arith}
+use Rattle.std.proofs.Common.{◌≡◌, ℕ, ◌%◌, ◌≤◌, eqb, ltb, true, Some, None, Option, refl, arith}
 use Rattle.std.specs.Option.{ok_or}
 use Rattle.number.specs.declared.width.Size.{Size}
 use Rattle.number.specs.declared.width.Size.TheVariants.{Byte, Halfword, Word, Doubleword}
@@ -16,7 +16,7 @@ use Rattle.instruction.specs.declared.action.Action.{Action}
 use Rattle.instruction.specs.declared.action.Action.TheVariants.{Two as two, One as one, Branch as branch, Bsr as bsr, Rsr as rsr, Nop as nop, Strings as strings}
 use Rattle.instruction.specs.declared.part.Part.{Part}
 use Rattle.instruction.specs.Opcodes.{entry}
-use Rattle.instruction.specs.Formats.{register_and_mode, two_modes, two_by, two_operands, one_operand, strings_by, string_instruction, by_entry, decode}
+use Rattle.instruction.specs.Formats.{register_first, register_second, two_modes, two_by, two_operands, one_operand, strings_by, string_instruction, by_entry, decode}
 use Rattle.instruction.proofs.FineFormats.{entry_fine, served_fine}
 
 abbrev pub NarrowStrings : Action → Type 0
@@ -48,16 +48,11 @@ module _ (pc : ℕ) where
   after_two : {A B : Type 0} (p : Program A) (q : A → Program B) (g : A → B → Part Action) → ((x : A) (y : B) → Narrow (g x y)) → Always Narrow (p >>= λ x. q x >>= λ y. give (g x y))
   after_two p q g h = always_last Narrow p _ (λ x. always_last Narrow (q x) _ (λ y. always_give Narrow (g x y) (h x y)))
 
-  register_narrow : (o : TwoOperation) (s t : Size) (d m : Bool) (n : ℕ) → Always Narrow (register_and_mode pc o s t d m n)
-  unfolding register_and_mode
-  register_narrow o s t false m n = after_two _ _ _ (λ _ _. tt)
-  register_narrow o s t true m n = after_two _ _ _ (λ _ _. tt)
-
   two_by_narrow : (o : TwoOperation) (s t : Size) (b : ℕ) → Always Narrow (two_by pc o s t b)
-  unfolding two_by two_modes
+  unfolding two_by register_first register_second two_modes
   two_by_narrow o s t b =
       always_if Narrow (ltb b 128) _ _
-      (λ _. register_narrow o s t (bit 5 b) (bit 6 b) (b % 32))
+      (λ _. always_if Narrow (bit 5 b) _ _ (λ _. after_two _ _ _ (λ _ _. tt)) (λ _. after_two _ _ _ (λ _ _. tt)))
       (λ _. always_if Narrow (eqb (b % 32) 0) _ _ (λ _. after_two _ _ _ (λ _ _. tt)) (λ _. always_refuse Narrow _))
 
   strings_by_narrow : (s : Size) (b : ℕ) → byte_count s ≤ 2 → (o : StringOperation) → Always Narrow (strings_by pc s b o)

@@ -1,5 +1,5 @@
 -- The formats of instructions. PC is the address of the first byte.
-use Rattle.std.specs.Prelude.{ℕ, ◌%◌, Bool, true, false, cond, not, Some, None, Ok, Err, Option, Result, ◌==◌, nat_lt}
+use Rattle.std.specs.Prelude.{ℕ, ◌%◌, Bool, cond, Some, None, Ok, Err, Option, Result, ◌==◌, nat_lt}
 use Rattle.std.specs.Option.{ok_or}
 use Rattle.board.specs.Block.{above}
 use Rattle.number.specs.declared.width.Size.{Size}
@@ -9,13 +9,11 @@ use Rattle.bus.specs.declared.refusal.Refusal.{Refusal}
 use Rattle.bus.specs.declared.refusal.Refusal.TheVariants.{NotServed, BadLengthByte}
 use Rattle.bus.specs.Buffer.{offset}
 use Rattle.bus.specs.Program.{Program, give, refuse, answer, ◌>>=◌, fetch_byte}
-use Rattle.instruction.specs.declared.operation.Access.{Access}
 use Rattle.instruction.specs.declared.operation.Access.TheVariants.{Address}
 use Rattle.instruction.specs.declared.operation.TwoOperation.{TwoOperation}
 use Rattle.instruction.specs.declared.operation.OneOperation.{OneOperation}
 use Rattle.instruction.specs.declared.operation.StringOperation.{StringOperation}
 use Rattle.instruction.specs.declared.operation.StringOperation.TheVariants.{Movc, Movcf, Movcs}
-use Rattle.instruction.specs.declared.operand.Operand.{Operand}
 use Rattle.instruction.specs.declared.operand.Operand.TheVariants.{Register as register}
 use Rattle.instruction.specs.declared.opcode.Entry.{Entry}
 use Rattle.instruction.specs.declared.opcode.Entry.TheVariants.{Two, One, Branch, Bsr, Rsr, Nop, Strings}
@@ -30,27 +28,18 @@ use Rattle.instruction.specs.Modes.{register_verdict}
 use Rattle.instruction.specs.Opcodes.{entry}
 use Rattle.instruction.specs.Decode.{part, displacement, permit, operand_at}
 
--- how the first operand, or with b the second, is accessed, and its size
-abbrev pub access_at : Bool → TwoOperation → Access
-access_at false o = first_access o
-access_at true o = second_access o
+-- Format I: a register in the second byte, which is judged before the mode byte is fetched, and an operand with bit m
+unfoldable pub register_first : ℕ → TwoOperation → Size → Size → Bool → ℕ → Program (Part Action)
+register_first pc o s1 s2 m n =
+    permit (above pc 1) (register_verdict (first_access o) s1 n) >>= λ _.
+    operand_at (above pc 2) m s2 (second_access o) >>= λ x.
+    give (part (two o s1 s2 (register n) x.value) x.next)
 
-abbrev pub size_at : Bool → Size → Size → Size
-size_at false s1 s2 = s1
-size_at true s1 s2 = s2
-
--- the instruction of x and y, where x is its first operand, or with b its second
-abbrev pub in_order : Bool → TwoOperation → Size → Size → Operand → Operand → Action
-in_order false o s1 s2 x y = two o s1 s2 x y
-in_order true o s1 s2 x y = two o s1 s2 y x
-
--- Format I: a register in the second byte, which is judged before the mode byte is fetched, and an operand with bit m; with d the register is the
--- second operand
-unfoldable pub register_and_mode : ℕ → TwoOperation → Size → Size → Bool → Bool → ℕ → Program (Part Action)
-register_and_mode pc o s1 s2 d m n =
-    permit (above pc 1) (register_verdict (access_at d o) (size_at d s1 s2) n) >>= λ _.
-    operand_at (above pc 2) m (size_at (not d) s1 s2) (access_at (not d) o) >>= λ x.
-    give (part (in_order d o s1 s2 (register n) x.value) x.next)
+unfoldable pub register_second : ℕ → TwoOperation → Size → Size → Bool → ℕ → Program (Part Action)
+register_second pc o s1 s2 m n =
+    permit (above pc 1) (register_verdict (second_access o) s2 n) >>= λ _.
+    operand_at (above pc 2) m s1 (first_access o) >>= λ x.
+    give (part (two o s1 s2 x.value (register n)) x.next)
 
 -- Format II: two operands, with bits m and m'
 unfoldable pub two_modes : ℕ → TwoOperation → Size → Size → Bool → Bool → Program (Part Action)
@@ -64,7 +53,7 @@ two_modes pc o s1 s2 m m' =
 unfoldable pub two_by : ℕ → TwoOperation → Size → Size → ℕ → Program (Part Action)
 two_by pc o s1 s2 b =
     cond (nat_lt b 128)
-    (register_and_mode pc o s1 s2 (bit 5 b) (bit 6 b) (b % 32))
+    (cond (bit 5 b) (register_second pc o s1 s2 (bit 6 b) (b % 32)) (register_first pc o s1 s2 (bit 6 b) (b % 32)))
     (cond (b % 32 == 0) (two_modes pc o s1 s2 (bit 6 b) (bit 5 b)) (refuse (NotServed pc)))
 
 unfoldable pub two_operands : ℕ → TwoOperation → Size → Size → Program (Part Action)

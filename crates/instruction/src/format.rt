@@ -1,7 +1,9 @@
 // The formats of instructions.
-ghost use Rattle.std.specs.Prelude.{◌≡◌};
+ghost use Rattle.std.specs.Prelude.{◌≡◌, cond};
 ghost use Rattle.bus.specs.Seen.{Runs};
-ghost use Rattle.instruction.specs.Formats.{access_at, size_at, in_order, register_and_mode, two_modes, two_by, two_operands as two_operands_is, one_operand as one_operand_is, length_of as length_is, length_at as length_at_is, string_at as string_at_is, string_operation as string_operation_of, string_instruction as string_instruction_is, by_entry as by_entry_is, decode as decode_is};
+ghost use Rattle.instruction.specs.declared.action.Action.TheVariants.{Two};
+ghost use Rattle.instruction.specs.Operations.{first_access, second_access};
+ghost use Rattle.instruction.specs.Formats.{register_first, register_second, two_modes, two_by, two_operands as two_operands_is, one_operand as one_operand_is, length_of as length_is, length_at as length_at_is, string_at as string_at_is, string_operation as string_operation_of, string_instruction as string_instruction_is, by_entry as by_entry_is, decode as decode_is};
 
 use super::action::{Action, Length, StringOperand};
 use super::mode::register_verdict;
@@ -27,7 +29,7 @@ struct Pair {
 impl Pair {
     // How its first operand, or its second, is accessed.
     fn access(self, second: bool) -> Access
-        ensures { result ≡ access_at second self.operation }
+        ensures { result ≡ cond second (second_access self.operation) (first_access self.operation) }
     {
         if second {
             self.operation.second_access()
@@ -38,14 +40,14 @@ impl Pair {
 
     // The size of its first operand, or of its second.
     fn size(self, second: bool) -> Size
-        ensures { result ≡ size_at second self.first self.second }
+        ensures { result ≡ cond second self.second self.first }
     {
         if second { self.second } else { self.first }
     }
 
     // The instruction of x and y, where x is its first operand, or its second.
     fn action(self, second: bool, x: Operand, y: Operand) -> Action
-        ensures { result ≡ in_order second self.operation self.first self.second x y }
+        ensures { result ≡ cond second (Two self.operation self.first self.second y x) (Two self.operation self.first self.second x y) }
     {
         let (a, b) = if second { (y, x) } else { (x, y) };
         Action::Two(self.operation, self.first, self.second, a, b)
@@ -61,7 +63,7 @@ fn register_and_mode<B: Bus>(
     m: bool,
     n: u8,
 ) -> Result<Part<Action>, Refusal>
-    ensures { Runs (register_and_mode pc pair.operation pair.first pair.second d m n) (B.Bus.seen bus.old) result (B.Bus.seen bus.new) }
+    ensures { Runs (cond d (register_second pc pair.operation pair.first pair.second m n) (register_first pc pair.operation pair.first pair.second m n)) (B.Bus.seen bus.old) result (B.Bus.seen bus.new) }
 {
     let verdict = register_verdict(pair.access(d), pair.size(d), n);
     permit(pc.wrapping_add(1), verdict)?;
