@@ -11,6 +11,7 @@ use bus::Refusal;
 use number::width::Size;
 
 impl Base {
+    // Whether no register of the base is above 31.
     fn is_named(self) -> bool
         ensures { result ≡ base_named self }
     {
@@ -22,6 +23,7 @@ impl Base {
 }
 
 impl Address {
+    // Whether no register of the address is above 31.
     fn is_named(self) -> bool
         ensures { result ≡ address_named self }
     {
@@ -33,7 +35,7 @@ impl Address {
 }
 
 impl Operand {
-    // No register of the operand is above 31.
+    // Whether no register of the operand is above 31.
     fn is_named(self) -> bool
         ensures { result ≡ operand_named self }
     {
@@ -46,13 +48,14 @@ impl Operand {
         }
     }
 
+    // Whether the operand is an immediate.
     fn is_immediate(self) -> bool
         ensures { result ≡ is_immediate self }
     {
         matches!(self, Operand::Immediate(_))
     }
 
-    // An instruction takes the operand, of that size, where it accesses one so.
+    // Whether an instruction takes the operand, at that size, accessed in that way.
     fn is_taken(self, access: Access, size: Size) -> bool
         ensures { result ≡ operand_taken access size self }
     {
@@ -72,6 +75,7 @@ impl Operand {
 }
 
 impl Length {
+    // Whether no register of the length is above 31.
     fn is_named(self) -> bool
         ensures { result ≡ length_named self }
     {
@@ -81,7 +85,7 @@ impl Length {
         }
     }
 
-    // A length byte can give it.
+    // Whether a length byte can give it.
     fn is_taken(self) -> bool
         ensures { result ≡ length_taken self }
     {
@@ -93,13 +97,14 @@ impl Length {
 }
 
 impl StringOperand {
+    // Whether no register of the operand or of its length is above 31.
     fn is_named(self) -> bool
         ensures { result ≡ string_named self }
     {
         self.operand.is_named() && self.length.is_named()
     }
 
-    // An instruction of `length` bytes takes it.
+    // Whether an instruction of `length` bytes takes it.
     fn is_taken(self, size: Size, length: u32) -> bool
         ensures { result ≡ string_taken size length self }
     {
@@ -109,6 +114,7 @@ impl StringOperand {
 }
 
 impl Access {
+    // Whether it writes the operand.
     fn writes(self) -> bool
         ensures { result ≡ writes_of self }
     {
@@ -117,7 +123,7 @@ impl Access {
 }
 
 impl TwoOperation {
-    // It is served at these sizes, in bytes.
+    // Whether it is served at these sizes, in bytes.
     fn is_served(self, first: u32, second: u32) -> bool
         ensures { result ≡ sizes_served self first second }
     {
@@ -132,7 +138,7 @@ impl TwoOperation {
 }
 
 impl OneOperation {
-    // It is served at this size, in bytes.
+    // Whether it is served at this size, in bytes.
     fn is_served(self, size: u32) -> bool
         ensures { result ≡ size_served self size }
     {
@@ -144,7 +150,7 @@ impl OneOperation {
     }
 }
 
-// The displacement has 16 bits.
+// Whether the displacement fits in 16 bits.
 fn is_halfword(displacement: i32) -> bool
     ensures { result ≡ fits 16 displacement }
 {
@@ -152,7 +158,7 @@ fn is_halfword(displacement: i32) -> bool
 }
 
 impl Action {
-    // No register of the action is above 31.
+    // Whether no register of the action is above 31.
     fn is_named(self) -> bool
         ensures { result ≡ registers_named self }
     {
@@ -164,7 +170,7 @@ impl Action {
         }
     }
 
-    // An immediate stands where the action writes.
+    // Whether an immediate stands where the action writes.
     fn writes_immediate(self) -> bool
         ensures { result ≡ immediate_written self }
     {
@@ -179,7 +185,7 @@ impl Action {
         }
     }
 
-    // Some encoding of `length` bytes could have given the action.
+    // Whether some encoding of `length` bytes could have given the action.
     fn is_taken(self, length: u32) -> bool
         ensures { result ≡ action_taken self length }
     {
