@@ -11,25 +11,25 @@ impl Display for TwoOperation {
     ghost output = { λ operation. Some (two_name operation) };
 
     fn fmt<W: Write>(&self, f: &mut Formatter<W>) -> fmt::Result {
-        match self {
-            TwoOperation::Mov => f.write_str("mov"),
-            TwoOperation::Movs => f.write_str("movs"),
-            TwoOperation::Movz => f.write_str("movz"),
-            TwoOperation::Movea => f.write_str("movea"),
-            TwoOperation::Add => f.write_str("add"),
-            TwoOperation::Addc => f.write_str("addc"),
-            TwoOperation::Sub => f.write_str("sub"),
-            TwoOperation::Subc => f.write_str("subc"),
-            TwoOperation::Cmp => f.write_str("cmp"),
-            TwoOperation::Neg => f.write_str("neg"),
-            TwoOperation::And => f.write_str("and"),
-            TwoOperation::Or => f.write_str("or"),
-            TwoOperation::Xor => f.write_str("xor"),
-            TwoOperation::Not => f.write_str("not"),
-            TwoOperation::Shl => f.write_str("shl"),
-            TwoOperation::Sha => f.write_str("sha"),
-            TwoOperation::Rot => f.write_str("rot"),
-        }
+        f.write_str(match self {
+            TwoOperation::Mov => "mov",
+            TwoOperation::Movs => "movs",
+            TwoOperation::Movz => "movz",
+            TwoOperation::Movea => "movea",
+            TwoOperation::Add => "add",
+            TwoOperation::Addc => "addc",
+            TwoOperation::Sub => "sub",
+            TwoOperation::Subc => "subc",
+            TwoOperation::Cmp => "cmp",
+            TwoOperation::Neg => "neg",
+            TwoOperation::And => "and",
+            TwoOperation::Or => "or",
+            TwoOperation::Xor => "xor",
+            TwoOperation::Not => "not",
+            TwoOperation::Shl => "shl",
+            TwoOperation::Sha => "sha",
+            TwoOperation::Rot => "rot",
+        })
     }
 }
 
@@ -37,15 +37,15 @@ impl Display for OneOperation {
     ghost output = { λ operation. Some (one_name operation) };
 
     fn fmt<W: Write>(&self, f: &mut Formatter<W>) -> fmt::Result {
-        match self {
-            OneOperation::Inc => f.write_str("inc"),
-            OneOperation::Dec => f.write_str("dec"),
-            OneOperation::Test => f.write_str("test"),
-            OneOperation::Push => f.write_str("push"),
-            OneOperation::Pop => f.write_str("pop"),
-            OneOperation::Jmp => f.write_str("jmp"),
-            OneOperation::Jsr => f.write_str("jsr"),
-        }
+        f.write_str(match self {
+            OneOperation::Inc => "inc",
+            OneOperation::Dec => "dec",
+            OneOperation::Test => "test",
+            OneOperation::Push => "push",
+            OneOperation::Pop => "pop",
+            OneOperation::Jmp => "jmp",
+            OneOperation::Jsr => "jsr",
+        })
     }
 }
 
@@ -53,11 +53,11 @@ impl Display for StringOperation {
     ghost output = { λ operation. Some (string_name operation) };
 
     fn fmt<W: Write>(&self, f: &mut Formatter<W>) -> fmt::Result {
-        match self {
-            StringOperation::Movc => f.write_str("movcu"),
-            StringOperation::Movcf => f.write_str("movcfu"),
-            StringOperation::Movcs => f.write_str("movcs"),
-        }
+        f.write_str(match self {
+            StringOperation::Movc => "movcu",
+            StringOperation::Movcf => "movcfu",
+            StringOperation::Movcs => "movcs",
+        })
     }
 }
 
