@@ -9,5 +9,5 @@ use Rattle.instruction.specs.Opcodes.{entry}
 abbrev pub Right : List (Option Entry) → Type 0
 Right table = table ≡ map entry (range_with_len 0 256)
 
-pub rule : (op : ℕ) → op < 256 → (table : List (Option Entry)) → Right table → get_or table op None ≡ entry op
-rule op m table h = ap (λ xs. get_or xs op None) h ∙ get_or-map-range_with_len entry 0 256 op op None m (omega arith)
+pub rule : (op n : ℕ) → n ≡ op → op < 256 → (table : List (Option Entry)) → Right table → get_or table n None ≡ entry op
+rule op n e m table h = ap (λ k. get_or table k None) e ∙ (ap (λ xs. get_or xs op None) h ∙ get_or-map-range_with_len entry 0 256 op op None m (omega arith))

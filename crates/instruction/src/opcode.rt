@@ -302,5 +302,5 @@ static OPCODES: [Option<Entry>; 256] = [
 pub fn look_up(opcode: u8) -> Option<Entry>
     ensures { result ≡ entry opcode }
 {
-    OPCODES[opcode as usize]
+    OPCODES[usize::from(opcode)]
 }

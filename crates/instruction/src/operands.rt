@@ -137,7 +137,7 @@ fn by_mode<B: Bus>(
         Mode::Quick(value) => {
             permit(at, immediate_verdict(access, size))?;
             Ok(Part {
-                value: Operand::Immediate(value as u32),
+                value: Operand::Immediate(u32::from(value)),
                 next,
             })
         }

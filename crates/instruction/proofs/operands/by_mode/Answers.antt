@@ -1,6 +1,8 @@
-use Rattle.std.proofs.Common.{refl}
+use Rattle.std.proofs.Common.{sym, refl, ap}
+use Rattle.board.specs.Block.{above}
 use Rattle.bus.proofs.Laws.{goes_on, ends_at, gives, hands_on, by_case}
-use Rattle.instruction.specs.Decode.{by_mode}
+use Rattle.instruction.specs.Decode.{part, by_mode}
+use Rattle.instruction.specs.declared.operand.Operand.TheVariants.{Immediate}
 use Rattle.instruction.proofs.Permits.{permits}
 use Rattle.instruction.proofs.operands.by_mode.Goals as goal
 
@@ -18,7 +20,7 @@ returns-in_err-permit-in-Quick g c = hands_on c.from_residual-in_err-permit-in-Q
 
 pub returns-in_ok-permit-in-Quick : goal.returns-in_ok-permit-in-Quick
 unfolding by_mode
-returns-in_ok-permit-in-Quick g c = by_case (by_mode c.args.at c.args.size c.args.access) c.in-Quick.is (goes_on _ (permits _ c.immediate_verdict.ensures c.in_ok-permit-in-Quick.ensures) (gives refl))
+returns-in_ok-permit-in-Quick g c = by_case (by_mode c.args.at c.args.size c.args.access) c.in-Quick.is (goes_on _ (permits _ c.immediate_verdict.ensures c.in_ok-permit-in-Quick.ensures) (gives (ap (λ n. part (Immediate n) (above c.args.at 1)) (sym c.from.ensures))))
 
 pub returns-in_err-permit-in-Immediate : goal.returns-in_err-permit-in-Immediate
 unfolding by_mode
