@@ -16,7 +16,7 @@ use Rattle.processor.specs.declared.cpu.Cpu.{Cpu}
 use Rattle.execute.specs.Step.{one_step}
 use Rattle.machine.specs.declared.held.Machine.{Machine}
 use Rattle.history.specs.declared.call.Call.{Call}
-use Rattle.session.specs.Calls.{State, objection, world, trail, concluded, stepped, attempted}
+use Rattle.session.specs.Calls.{State, step_admitted, world, trail, concluded, stepped, attempted}
 use Rattle.history.specs.History.{with_machine, opening, reached, last_written}
 use Rattle.execute.proofs.Bounds.{step_bounded}
 use Rattle.history.proofs.Keeps.{after_keeps}
@@ -76,7 +76,7 @@ module _ (rights : ℕ → Right) (f : ℕ → ℕ) where
 
   pub sound_try : (m n : ℕ) (s : State) → Sound f s → Sound f (attempted rights m n s).0
   unfolding attempted
-  sound_try m n s h = sound_stepped s (objection m n s.machine) h
+  sound_try m n s h = sound_stepped s (step_admitted m n s.machine) h
 
   pub sound_change : (s : State) (m : Machine) → Sound f s → Sound f (with_machine s m)
   sound_change s m h = record { held = h.held; board = h.board }

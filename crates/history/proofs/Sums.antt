@@ -9,7 +9,7 @@ use Rattle.execute.specs.Step.{one_step}
 use Rattle.machine.specs.declared.answer.Answer.{Answer}
 use Rattle.history.specs.declared.call.Lines.{Lines}
 use Rattle.history.specs.declared.call.Call.TheVariants.{Run}
-use Rattle.session.specs.Calls.{State, short, objection, world, trail, concluded, stepped, attempted, counted, further, tries, unless_short, ran}
+use Rattle.session.specs.Calls.{State, short, step_admitted, world, trail, concluded, stepped, attempted, counted, further, tries, unless_short, ran}
 use Rattle.history.specs.History.{Phase, setting_up, running, closed, Point, at, did, after, runs_of, sum}
 
 -- a try that was refused, tried once more, changes nothing
@@ -26,16 +26,16 @@ module _ (rights : ℕ → Right) (m n : ℕ) where
       let k : runs (one_step s.machine.cpu) (world rights s) (with_reads t.reads (trail s)) ≡ (Err x, t) = subst (λ o. runs (one_step s.machine.cpu) (world rights s) (with_reads o.1.reads (trail s)) ≡ o) h p in
       ap (λ o. (concluded rights (concluded rights s (Err x) t).0 o.0 o.1).0) k
 
-  stepped_still : (s : State) (c : Result (Unit {0}) Refusal) → objection m n s.machine ≡ c → Still (attempted rights m n) (stepped rights s c)
+  stepped_still : (s : State) (c : Result (Unit {0}) Refusal) → step_admitted m n s.machine ≡ c → Still (attempted rights m n) (stepped rights s c)
   unfolding attempted
   stepped_still s (Err d) k e q = ap (λ c. (stepped rights s c).0) k
   stepped_still s (Ok y) k e q =
       let o = runs (one_step s.machine.cpu) (world rights s) (trail s) in
-      concluded_still s o.0 o.1 refl e q (objection m n (concluded rights s o.0 o.1).0.machine)
+      concluded_still s o.0 o.1 refl e q (step_admitted m n (concluded rights s o.0 o.1).0.machine)
 
   still : (s : State) → Still (attempted rights m n) (attempted rights m n s)
   unfolding attempted
-  still s = stepped_still s (objection m n s.machine) refl
+  still s = stepped_still s (step_admitted m n s.machine) refl
 
 -- so many tries, refused or not
 abbrev trying : (State → State × Result (Unit {0}) Refusal) → ℕ → State → State

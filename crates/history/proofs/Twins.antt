@@ -17,7 +17,7 @@ use Rattle.history.specs.declared.call.Call.{Call}
 use Rattle.history.specs.declared.call.Call.TheVariants.{Preset, Start, Step, Run, Close}
 use Rattle.history.specs.declared.call.Reply.{Reply}
 use Rattle.history.specs.declared.call.Reply.TheVariants.{Ran}
-use Rattle.session.specs.Calls.{State, short, objection, world, trail, concluded, stepped, attempted, counted, further, tries, unless_short, ran}
+use Rattle.session.specs.Calls.{State, short, step_admitted, world, trail, concluded, stepped, attempted, counted, further, tries, unless_short, ran}
 use Rattle.history.specs.History.{Phase, setting_up, running, closed, Point, at, with_machine, set_up, go_on, did, after, opening, reached}
 use Rattle.history.proofs.Keeps.{after_keeps}
 use Rattle.history.proofs.Sound.{Sound, of_write, last_named, last_unnamed, held_after, sound_try, sound_change, sound_opening}
@@ -37,7 +37,7 @@ module _ (rights : ℕ → Right) (xs : List ReadLine) where
 
   from_try : (m n : ℕ) (s : State) → From s → From (attempted rights m n s).0
   unfolding attempted
-  from_try m n s g = from_stepped s (objection m n s.machine) g
+  from_try m n s g = from_stepped s (step_admitted m n s.machine) g
 
   from_after : (cs : List Call) (p : Point) → From p.state → From (after rights cs p).0.state
   from_after cs p g = after_keeps rights From from_try (λ s m h. h) cs p g
@@ -110,7 +110,7 @@ module _ (rights : ℕ → Right) (f g : ℕ → ℕ) where
 
   try_same : (m n : ℕ) (s : State) (b : ℕ → ℕ) → Sound f s → Sound g (with_board b s) → Told (attempted rights m n s).0.reads → Same (attempted rights m n s) (attempted rights m n (with_board b s))
   unfolding attempted
-  try_same m n s b h k t = stepped_same s b (objection m n s.machine) h k t
+  try_same m n s b h k t = stepped_same s b (step_admitted m n s.machine) h k t
 
   -- two outcomes, twins with one answer
   abbrev Twins : {R : Type 0} → State × R → State × R → Type 0

@@ -15,7 +15,7 @@ use Rattle.bus.proofs.Lines.{drop_more_same}
 use Rattle.processor.specs.declared.cpu.Cpu.{Cpu}
 use Rattle.execute.specs.Step.{one_step}
 use Rattle.machine.specs.declared.held.Machine.{Machine}
-use Rattle.session.specs.Calls.{State, Moment, state_at, objection, world, trail, concluded, stepped, attempted, attempted_at, Comes}
+use Rattle.session.specs.Calls.{State, Moment, state_at, step_admitted, world, trail, concluded, stepped, attempted, attempted_at, Comes}
 use Rattle.session.proofs.Attempts.{left}
 
 -- nothing has changed
@@ -50,16 +50,16 @@ then_comes {t = t} {u = u} {v = v} p z h k a e = record {
   writes_past = k.writes_past ∙ drop_more_same u.machine.written v.machine.written u.writes t.writes k.writes_more h.writes_past;
 }
 
--- something stands against the step
-pub objected : (t : Moment) (e : Refusal) (r : Result (Unit {0}) Refusal) → Err e ≡ objection (length t.reads) (length t.writes) t.machine → r ≡ Err e → Comes (attempted_at t) r t t
+-- a step that is not admitted
+pub not_admitted : (t : Moment) (e : Refusal) (r : Result (Unit {0}) Refusal) → Err e ≡ step_admitted (length t.reads) (length t.writes) t.machine → r ≡ Err e → Comes (attempted_at t) r t t
 unfolding attempted
-objected t e r h q = stays t _ _ (ap (stepped t.rights (state_at t)) (sym h) ∙ ap (λ z. (state_at t, z)) (sym q))
+not_admitted t e r h q = stays t _ _ (ap (stepped t.rights (state_at t)) (sym h) ∙ ap (λ z. (state_at t, z)) (sym q))
 
--- where nothing stands against a step there are free lines
-pub free_reads : (m n : ℕ) (s : Machine) → objection m n s ≡ Ok tt → s.read + 300 ≤ m
+-- where a step is admitted there are free lines
+pub free_reads : (m n : ℕ) (s : Machine) → step_admitted m n s ≡ Ok tt → s.read + 300 ≤ m
 free_reads m n s e = grind (arith, nat_tests)
 
-pub free_writes : (m n : ℕ) (s : Machine) → objection m n s ≡ Ok tt → s.written + 256 ≤ n
+pub free_writes : (m n : ℕ) (s : Machine) → step_admitted m n s ≡ Ok tt → s.written + 256 ≤ n
 free_writes m n s e = grind (arith, nat_tests)
 
 -- a sheet with new lines: its used lines, the rest, and its length
@@ -76,7 +76,7 @@ module _ {L : Type 0} (used : ℕ) (new sheet : List L) (room : used + length ne
   pub entered_past : drop (used + length new) (entered used new sheet) ≡ drop (used + length new) sheet
   entered_past = ap (drop (used + length new)) shape ∙ drop_at (take used sheet ++ new) (drop (used + length new) sheet) (used + length new) front
 
-module _ (t : Moment) (rs' : List ReadLine) (used : ℕ) (o : Result Cpu Refusal) (own : List (ℕ × ℕ)) (clear : objection (length t.reads) (length t.writes) t.machine ≡ Ok tt) (comes : runs (one_step t.machine.cpu) (world t.rights (state_at t)) (trail (state_at t)) ≡ (o, left (take used rs') own)) (later : Later t.machine.read t.reads used rs') where
+module _ (t : Moment) (rs' : List ReadLine) (used : ℕ) (o : Result Cpu Refusal) (own : List (ℕ × ℕ)) (clear : step_admitted (length t.reads) (length t.writes) t.machine ≡ Ok tt) (comes : runs (one_step t.machine.cpu) (world t.rights (state_at t)) (trail (state_at t)) ≡ (o, left (take used rs') own)) (later : Later t.machine.read t.reads used rs') where
   abbrev s : Machine
   s = t.machine
 

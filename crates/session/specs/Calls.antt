@@ -69,10 +69,10 @@ started pc m = with_cpu m (gone_on m.cpu m.cpu.flags pc)
 abbrev pub short : ℕ → ℕ → Machine → Bool
 short m n s = nat_lt m s.read || nat_lt n s.written
 
--- what stands against a step, whatever the instruction: a sheet too short, a billion steps complete, fewer than 300 free reads lines, fewer
--- than 256 free writes lines, in this order
-abbrev pub objection : ℕ → ℕ → Machine → Result (Unit {0}) Refusal
-objection m n s =
+-- whether a step may be tried, whatever the instruction: it is refused for a sheet too short, a billion steps complete, fewer than 300 free
+-- reads lines, fewer than 256 free writes lines, in this order
+abbrev pub step_admitted : ℕ → ℕ → Machine → Result (Unit {0}) Refusal
+step_admitted m n s =
     cond (short m n s) (Err SheetTooShort)
     (cond (nat_le 1000000000 s.completed) (Err StepLimit)
     (cond (nat_lt (m - s.read) 300) (Err ReadsFull)
@@ -107,14 +107,14 @@ concluded rights s (Ok c) t = (
   Ok tt,
 )
 
--- the step itself, where nothing stands against it: one instruction decoded and carried out
+-- the step itself, where it is admitted: one instruction decoded and carried out
 abbrev pub stepped : (ℕ → Right) → State → Result (Unit {0}) Refusal → State × Result (Unit {0}) Refusal
 stepped rights s (Err e) = (s, Err e)
 stepped rights s (Ok clear) = concluded rights s (runs (one_step s.machine.cpu) (world rights s) (trail s)).0 (runs (one_step s.machine.cpu) (world rights s) (trail s)).1
 
 -- one try of a step, beside a reads sheet of m lines and a writes sheet of n
 unfoldable pub attempted : (ℕ → Right) → ℕ → ℕ → State → State × Result (Unit {0}) Refusal
-attempted rights m n s = stepped rights s (objection m n s.machine)
+attempted rights m n s = stepped rights s (step_admitted m n s.machine)
 
 -- ---- runs
 

@@ -5,7 +5,7 @@ ghost use Rattle.bus.specs.Sheets.{All};
 ghost use Rattle.bus.specs.Program.{runs};
 ghost use Rattle.bus.specs.Seen.{Runs, Later};
 ghost use Rattle.execute.specs.Step.{one_step};
-ghost use Rattle.session.specs.Calls.{short, objection as objection_to, moment, state_at, world, trail};
+ghost use Rattle.session.specs.Calls.{short, step_admitted, moment, state_at, world, trail};
 ghost use Rattle.session.specs.Attempt.{bus_seen};
 
 use board::Board;
@@ -29,9 +29,9 @@ pub(crate) fn is_short(machine: &Machine, reads: usize, writes: usize) -> bool
     reads < machine.read || writes < machine.written
 }
 
-// What stands against a step, beside sheets of so many lines.
-pub(crate) fn objection(machine: &Machine, reads: usize, writes: usize) -> Result<(), Refusal>
-    ensures { result ≡ objection_to reads writes machine.now }
+// Whether a step may be tried beside sheets of so many lines, or why not.
+pub(crate) fn admit_step(machine: &Machine, reads: usize, writes: usize) -> Result<(), Refusal>
+    ensures { result ≡ step_admitted reads writes machine.now }
 {
     if is_short(machine, reads, writes) {
         return Err(Refusal::SheetTooShort);
@@ -63,14 +63,14 @@ fn on_bus<'a, 'b, B: Board>(bus: &mut StepBus<'a, 'b, B>, cpu: Cpu) -> Result<Cp
     step(bus, cpu)
 }
 
-// Tries the step on a bus over the board and the sheets, where nothing stands against it. What it sets waits in the buffer.
+// Tries the step on a bus over the board and the sheets, where it is admitted. What it sets waits in the buffer.
 pub(crate) fn try_step<'a, 'b, B: Board>(
     machine: &Machine,
     board: &'a B,
     reads: &'b mut [ReadLine],
     writes: &'a [WriteLine],
 ) -> Tried
-    requires { objection_to (length reads.old) (length writes.now) machine.now ≡ Ok tt }
+    requires { step_admitted (length reads.old) (length writes.now) machine.now ≡ Ok tt }
     ensures comes { let found = state_at (moment B.Board.rights B.Board.bytes machine.now board.now reads.old writes.now) in
         runs (one_step machine.now.cpu) (world (B.Board.rights board.now) found) (trail found)
         ≡ (result.outcome, record { reads = take result.used reads.new; own = result.buffer }) }

@@ -2,7 +2,7 @@
 ghost use Rattle.std.specs.Prelude.{◌≡◌};
 ghost use Rattle.session.specs.Calls.{moment, attempted_at, ran_at, Comes};
 
-use super::attempt::{is_short, objection, try_step};
+use super::attempt::{admit_step, is_short, try_step};
 use super::closed::Closed;
 use board::Board;
 use bus::{ReadLine, Refusal, WriteLine};
@@ -28,7 +28,7 @@ impl Running {
             let left = moment B.Board.rights B.Board.bytes self.new.machine board.new reads.new writes.new in
             Comes (attempted_at found) result found left }
     {
-        objection(&self.machine, reads.len(), writes.len())?;
+        admit_step(&self.machine, reads.len(), writes.len())?;
         let tried = try_step(&self.machine, board, reads, writes);
         self.machine.read = tried.used;
         self.machine.cpu = tried.outcome?;
