@@ -4,7 +4,7 @@ use Rattle.bus.specs.declared.refusal.Refusal.{Refusal}
 use Rattle.bus.specs.Refusals.{refusal_text}
 use Rattle.instruction.specs.declared.instruction.Instruction.{Instruction}
 use Rattle.printout.specs.declared.listing.Line.{Line}
-use Rattle.printout.specs.Text.{hexadecimal, cells_text}
+use Rattle.printout.specs.Text.{digits_of_width, cells_text}
 use Rattle.printout.specs.Instructions.{action_text}
 
 -- bytes of code, with three spaces for each that is missing of eight (32 is a space)
@@ -17,4 +17,4 @@ decoded_text pc cells (Ok i) = codes " " ++ code_text (take i.length cells) ++ c
 decoded_text pc cells (Err e) = codes "  refused: " ++ refusal_text e
 
 abbrev pub line_text : Line → List ℕ
-line_text l = codes "  " ++ hexadecimal 8 l.pc ++ decoded_text l.pc l.cells l.decoded
+line_text l = codes "  " ++ digits_of_width 8 l.pc ++ decoded_text l.pc l.cells l.decoded

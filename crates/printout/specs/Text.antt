@@ -1,18 +1,18 @@
 -- What is printed, as text.
-use Rattle.std.specs.Prelude.{ℕ, zero, suc, ◌*◌, ◌-◌, ◌^◌, true, false, List, [], ◌++◌, Some, None, Option, codes, flat_map}
-use Rattle.std.specs.Fmt.{digits, padded, padded_integral, format_spec}
+use Rattle.std.specs.Prelude.{ℕ, zero, suc, ◌*◌, ◌-◌, true, List, [], ◌++◌, length, replicate, Some, None, Option, codes, flat_map}
+use Rattle.std.specs.Fmt.{digits}
 use Rattle.board.specs.declared.Right.{Right}
 use Rattle.board.specs.declared.Right.TheVariants.{NoAccess, ReadOnly, ReadWrite}
 use Rattle.printout.specs.declared.region.Region.{Region}
 use Rattle.board.specs.Block.{above, fetches}
 
--- a number in upper-case hexadecimal, with zeros before it up to so many digits
-abbrev pub hexadecimal : ℕ → ℕ → List ℕ
-hexadecimal width n = padded_integral (format_spec 32 0 4 width (2 ^ 64 - 1)) false [] (digits 16 true n)
+-- a number in capital hexadecimal digits, with zeros before it up to a width (48 is `0`)
+abbrev pub digits_of_width : ℕ → ℕ → List ℕ
+digits_of_width width n = replicate (width - length (digits 16 true n)) 48 ++ digits 16 true n
 
 -- a byte and the address that it lies at
 abbrev pub byte_at_text : ℕ → ℕ → List ℕ
-byte_at_text address byte = hexadecimal 8 address ++ codes " " ++ hexadecimal 2 byte
+byte_at_text address byte = digits_of_width 8 address ++ codes " " ++ digits_of_width 2 byte
 
 abbrev pub right_name : Right → List ℕ
 right_name NoAccess = codes "none"
@@ -21,7 +21,7 @@ right_name ReadWrite = codes "read-write"
 
 -- a byte of a board, where there is a right
 abbrev pub cell_text : Option ℕ → List ℕ
-cell_text (Some byte) = codes " " ++ hexadecimal 2 byte
+cell_text (Some byte) = codes " " ++ digits_of_width 2 byte
 cell_text None = codes " .."
 
 abbrev pub cells_text : List (Option ℕ) → List ℕ
@@ -29,7 +29,7 @@ cells_text cells = flat_map cell_text cells
 
 -- a line with the sixteen bytes from an address on
 abbrev pub row_text : (ℕ → Right) → (ℕ → ℕ) → ℕ → List ℕ
-row_text rights bytes a = codes "  " ++ hexadecimal 8 a ++ codes " " ++ cells_text (fetches rights bytes a 16) ++ codes "\n"
+row_text rights bytes a = codes "  " ++ digits_of_width 8 a ++ codes " " ++ cells_text (fetches rights bytes a 16) ++ codes "\n"
 
 -- so many of them, one after another
 abbrev pub rows_text : (ℕ → Right) → (ℕ → ℕ) → ℕ → ℕ → List ℕ
@@ -38,11 +38,11 @@ rows_text rights bytes from (suc n) = rows_text rights bytes from n ++ row_text 
 
 -- a region: its addresses, its right and its first bytes
 abbrev pub region_start : ℕ → ℕ → List ℕ
-region_start first last = codes "  " ++ hexadecimal 8 first ++ codes "-" ++ hexadecimal 8 last ++ codes "  "
+region_start first last = codes "  " ++ digits_of_width 8 first ++ codes "-" ++ digits_of_width 8 last ++ codes "  "
 
--- a name, with spaces after it up to ten characters
+-- a name, with spaces after it up to ten characters (32 is a space)
 abbrev pub in_column : List ℕ → List ℕ
-in_column name = padded (format_spec 32 1 0 10 (2 ^ 64 - 1)) name
+in_column name = name ++ replicate (10 - length name) 32
 
 abbrev pub region_rest : Right → List (Option ℕ) → List ℕ
 region_rest NoAccess cells = codes "none"

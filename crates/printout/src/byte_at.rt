@@ -14,6 +14,7 @@ pub struct ByteAt {
 impl fmt::Display for ByteAt {
     ghost output = { λ b. Some (byte_at_text b.address b.byte) };
 
+    #[tactic(auto, using(crate::proofs::Columns::printed))]
     fn fmt<W: fmt::Write>(&self, f: &mut fmt::Formatter<W>) -> fmt::Result {
         let ByteAt { address, byte } = *self;
         write!(f, "{address:08X} {byte:02X}")

@@ -12,6 +12,7 @@ struct Cell(Option<u8>);
 impl fmt::Display for Cell {
     ghost output = { λ c. Some (cell_text c.0) };
 
+    #[tactic(auto, using(crate::proofs::Columns::printed))]
     fn fmt<W: fmt::Write>(&self, f: &mut fmt::Formatter<W>) -> fmt::Result {
         match self.0 {
             Some(byte) => write!(f, " {byte:02X}"),

@@ -68,6 +68,7 @@ impl fmt::Display for Code<'_> {
 impl fmt::Display for Line {
     ghost output = { λ l. Some (line_text l) };
 
+    #[tactic(auto, using(crate::proofs::Columns::printed))]
     fn fmt<W: fmt::Write>(&self, f: &mut fmt::Formatter<W>) -> fmt::Result {
         let pc = self.pc;
         match self.decoded {

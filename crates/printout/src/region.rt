@@ -21,6 +21,7 @@ pub struct Region {
 impl fmt::Display for Region {
     ghost output = { λ r. Some (region_text r) };
 
+    #[tactic(auto, using(crate::proofs::Columns::printed))]
     fn fmt<W: fmt::Write>(&self, f: &mut fmt::Formatter<W>) -> fmt::Result {
         let Region {
             first,
