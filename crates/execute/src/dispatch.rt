@@ -6,7 +6,8 @@ ghost use Rattle.execute.specs.Execute.{one_operand as one_operand_is, acted as 
 use super::one::{
     altering, branched, calling, calling_relative, jumping, popping, pushing, returning,
 };
-use super::two::{SizedOperand, two_operands};
+use super::sized::SizedOperand;
+use super::two::two_operands;
 use bus::{Bus, Refusal};
 use instruction::{Action, Instruction, OneOperation};
 use processor::Cpu;
@@ -17,19 +18,19 @@ fn one_operand<B: Bus>(
     bus: &mut B,
     cpu: Cpu,
     operation: OneOperation,
-    operand: SizedOperand,
+    sized: SizedOperand,
     next: u32,
 ) -> Result<Cpu, Refusal>
-    ensures { Runs (one_operand_is cpu operation operand.size operand.operand next) (B.Bus.seen bus.old) result (B.Bus.seen bus.new) }
+    ensures { Runs (one_operand_is cpu operation sized.size sized.operand next) (B.Bus.seen bus.old) result (B.Bus.seen bus.new) }
 {
     match operation {
         OneOperation::Inc | OneOperation::Dec | OneOperation::Test => {
-            altering(bus, cpu, operation, operand, next)
+            altering(bus, cpu, operation, sized, next)
         }
-        OneOperation::Push => pushing(bus, cpu, operand.operand, next),
-        OneOperation::Pop => popping(bus, cpu, operand.operand, next),
-        OneOperation::Jmp => jumping(bus, cpu, operand.operand),
-        OneOperation::Jsr => calling(bus, cpu, operand.operand, next),
+        OneOperation::Push => pushing(bus, cpu, sized.operand, next),
+        OneOperation::Pop => popping(bus, cpu, sized.operand, next),
+        OneOperation::Jmp => jumping(bus, cpu, sized.operand),
+        OneOperation::Jsr => calling(bus, cpu, sized.operand, next),
     }
 }
 

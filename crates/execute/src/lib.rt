@@ -4,6 +4,7 @@
 mod bound;
 mod dispatch;
 mod one;
+mod sized;
 mod steps;
 mod two;
 

@@ -4,7 +4,8 @@ ghost use Rattle.number.specs.Outcomes.{shown};
 ghost use Rattle.bus.specs.Seen.{Runs};
 ghost use Rattle.execute.specs.One.{one_result as one_result_is, pushed as pushed_is, popped as popped_is, altering as altering_is, pushing as pushing_is, popping as popping_is, jumping as jumping_is, calling as calling_is, calling_relative as calling_relative_is, returning as returning_is, branched as branched_is};
 
-use super::two::{SizedOperand, left, taken};
+use super::sized::SizedOperand;
+use super::two::{left, taken};
 use bus::{Bus, Refusal, ask_bytes, put_number};
 use instruction::{OneOperation, Operand, TwoOperation};
 use number::arithmetic::Computed;
@@ -64,16 +65,16 @@ pub(crate) fn altering<B: Bus>(
     bus: &mut B,
     cpu: Cpu,
     operation: OneOperation,
-    operand: SizedOperand,
+    sized: SizedOperand,
     next: u32,
 ) -> Result<Cpu, Refusal>
-    ensures { Runs (altering_is cpu operation operand.size operand.operand next) (B.Bus.seen bus.old) result (B.Bus.seen bus.new) }
+    ensures { Runs (altering_is cpu operation sized.size sized.operand next) (B.Bus.seen bus.old) result (B.Bus.seen bus.new) }
 {
-    let found = operand.locate(bus, cpu)?;
+    let found = sized.locate(bus, cpu)?;
     let access = operation.access();
-    let number = taken(bus, found, operand.size, access)?;
-    let outcome = one_result(operation, operand.size, cpu.flags, number);
-    let done = left(bus, found, operand.size, access, outcome.value)?;
+    let number = taken(bus, found, sized.size, access)?;
+    let outcome = one_result(operation, sized.size, cpu.flags, number);
+    let done = left(bus, found, sized.size, access, outcome.value)?;
     Ok(done.gone_on(outcome.flags, next))
 }
 

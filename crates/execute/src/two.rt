@@ -1,30 +1,12 @@
 // Instructions of two operands.
-ghost use Rattle.std.specs.Prelude.{◌≡◌};
-ghost use Rattle.number.specs.Sizes.{byte_count};
 ghost use Rattle.bus.specs.Seen.{Runs};
-ghost use Rattle.processor.specs.Operands.{locate as locate_is};
 ghost use Rattle.execute.specs.Two.{taken as taken_is, left as left_is, two_operands as two_is};
 
+use super::sized::SizedOperand;
 use bus::{Bus, Refusal};
-use instruction::{Access, Operand, TwoOperation};
+use instruction::{Access, TwoOperation};
 use number::width::Size;
-use processor::{Cpu, Found, locate, result};
-
-// An operand with its size.
-#[derive(Clone, Copy)]
-pub(crate) struct SizedOperand {
-    pub size: Size,
-    pub operand: Operand,
-}
-
-impl SizedOperand {
-    // Where it lies, and the registers that finding it changes.
-    pub(crate) fn locate<B: Bus>(self, bus: &mut B, cpu: Cpu) -> Result<Found, Refusal>
-        ensures { Runs (locate_is cpu (byte_count self.size) self.operand) (B.Bus.seen bus.old) result (B.Bus.seen bus.new) }
-    {
-        locate(bus, cpu, self.size.bytes(), self.operand)
-    }
-}
+use processor::{Cpu, Found, result};
 
 // What an instruction takes of an operand, by its access.
 pub(crate) fn taken<B: Bus>(

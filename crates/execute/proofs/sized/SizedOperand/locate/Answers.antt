@@ -1,4 +1,4 @@
-use Rattle.execute.proofs.two.SizedOperand.locate.Goals as goal
+use Rattle.execute.proofs.sized.SizedOperand.locate.Goals as goal
 
 pub returns : goal.returns
 returns g c = rw c.bytes.ensures at c.locate.ensures
