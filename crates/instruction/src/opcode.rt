@@ -11,6 +11,7 @@ use number::width::Size::*;
 
 // What a served opcode byte stands for. Instructions of two operands have the sizes of the first and the second, those
 // of one operand its size and the bit m of its mode, and branches their condition and the size of their displacement.
+// Why a u8 for a condition: it goes into an Action as it is.
 #[derive(Clone, Copy, PartialEq, Eq, Debug)]
 pub enum Entry {
     Two(TwoOperation, Size, Size),

@@ -45,6 +45,7 @@ impl fmt::Display for OneName {
 }
 
 // A branch by its condition, of whose number the low four bits count. The eleventh is not served.
+// Why a u8 for a condition: an Action has it so.
 pub(crate) fn branch_name(condition: u8) -> &'static str
     ensures { result.now ≡ branch_name_of condition }
 {
