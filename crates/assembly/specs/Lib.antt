@@ -1,3 +1,4 @@
 pub mod Meaning
 pub mod Made
 pub mod Stack
+pub mod Lending

@@ -1,6 +1,7 @@
 // The stack of boards that a script works on.
 ghost use Rattle.std.specs.Prelude.{◌≡◌, ◌<◌, ◌-◌, ◌↔◌, [], ◌∷◌, ◌++◌, length, map, OnOk, OnErr, IsErrOf, slice_get, slice_set};
-ghost use Rattle.std.specs.Option.{option_copied};
+ghost use Rattle.std.specs.Option.{option_copied, option_copied_mut};
+ghost use Rattle.std.specs.Borrow.{sem};
 ghost use Rattle.assembly.specs.Made.{meaning_of};
 ghost use Rattle.assembly.specs.Stack.{cut_last, top_of, without_top};
 
@@ -48,6 +49,8 @@ impl fmt::Display for CutError {
 impl Error for CutError {}
 
 impl Stack {
+    ghost use Rattle.assembly.specs.Lending.{LendsTop};
+
     pub fn new(alloc: Global) -> Stack
         ensures { result ≡ [] }
     {
@@ -76,6 +79,13 @@ impl Stack {
         ensures { option_copied result ≡ top_of self.now }
     {
         self.boards.last()
+    }
+
+    pub fn top_mut(&mut self) -> Option<&mut Assembly>
+        ensures* writes_back { sem 𝓛 (LendsTop self.entry result) }
+        ensures board { option_copied_mut result ≡ top_of self.old }
+    {
+        self.boards.last_mut()
     }
 
     // Takes the upper and then the lower board off, and pushes their cut. Where there are fewer than two, and where memory
