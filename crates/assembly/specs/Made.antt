@@ -1,11 +1,17 @@
--- What an assembled board means.
-use Rattle.assembly.specs.Meaning.{Meaning, ram_of, rom_of, sensor_of, cut_of}
+-- What an assembled board means: at each address what the bank means that answers there.
+use Rattle.std.specs.Prelude.{List}
+use Rattle.assembly.specs.Meaning.{Meaning}
+use Rattle.assembly.specs.Banks.{bank_meaning}
+use Rattle.assembly.specs.Joints.{answering}
+use Rattle.assembly.specs.declared.bank.Bank.{Bank}
+use Rattle.assembly.specs.declared.made.Joint.{Joint}
 use Rattle.assembly.specs.declared.made.Assembly.{Assembly}
-use Rattle.assembly.specs.declared.made.Assembly.TheVariants.{Ram, Rom, Sensor, Cut'}
 
--- a box stands here as two arguments, where it lies and what it holds
+abbrev pub joined : Bank → List Joint → Meaning
+joined b js = record {
+  rights = λ a. (bank_meaning (answering a b js)).rights a;
+  bytes = λ a. (bank_meaning (answering a b js)).bytes a;
+}
+
 abbrev pub meaning_of : Assembly → Meaning
-meaning_of (Ram base bytes) = ram_of base bytes.items
-meaning_of (Rom base bytes) = rom_of base bytes.items
-meaning_of (Sensor page) = sensor_of page.base page.cells
-meaning_of (Cut' a p lower q upper) = cut_of a (meaning_of lower) (meaning_of upper)
+meaning_of s = joined s.first s.joints.items

@@ -19,13 +19,9 @@ pub struct Stack {
 
 impl Model for Stack {
     ghost use Rattle.std.specs.Prelude.{List};
-    ghost use Rattle.std.specs.Coded.{codes};
     ghost use Rattle.assembly.specs.declared.made.Assembly.{Assembly};
-    ghost use Rattle.assembly.specs.contracts.made.Assembly as assembly;
 
     ghost Value = { List Assembly };
-
-    ghost coded = { Prim.hlevel (codes, assembly.the_row.coded) };
 
     ghost view = { λ s. s.boards.items };
 }
@@ -89,18 +85,18 @@ impl Stack {
     }
 
     // Takes the upper and then the lower board off, and pushes their cut. Where there are fewer than two, and where memory
-    // runs out, all stay as they are.
-    pub fn cut(&mut self, alloc: Global, at: u32) -> Result<(), CutError>
+    // runs out, all mean what they meant.
+    pub fn cut(&mut self, at: u32) -> Result<(), CutError>
         ensures ok { OnOk result (map meaning_of self.new ≡ cut_last at (map meaning_of self.old)) }
         ensures too_few { IsErrOf result CutError.TooFewBoards ↔ (length self.old < 2) }
-        ensures err { OnErr result (self.new ≡ self.old) }
+        ensures err { OnErr result (map meaning_of self.new ≡ map meaning_of self.old) }
     {
         if self.boards.len() < 2 {
             return Err(CutError::TooFewBoards);
         }
         let upper = self.boards.pop().unwrap();
         let lower = self.boards.pop().unwrap();
-        match Assembly::cut(alloc, at, lower, upper) {
+        match Assembly::cut(at, lower, upper) {
             Ok(board) => {
                 self.boards.push(board).unwrap();
                 Ok(())

@@ -15,12 +15,12 @@ mod tests {
 
     fn ram(alloc: Global, base: u32, bytes: &[u8]) -> Result<Assembly, AllocError> {
         let bytes = Vec::from_slice(alloc, bytes)?;
-        Ok(Assembly::ram(base, bytes))
+        Ok(Assembly::ram(alloc, base, bytes))
     }
 
     fn rom(alloc: Global, base: u32, bytes: &[u8]) -> Result<Assembly, AllocError> {
         let bytes = Vec::from_slice(alloc, bytes)?;
-        Ok(Assembly::rom(base, bytes))
+        Ok(Assembly::rom(alloc, base, bytes))
     }
 
     // The right and the byte at an address, together.
@@ -41,7 +41,7 @@ mod tests {
         assert_eq!(rt; seen(&board, 0x10), (Right::ReadOnly, Some(7)));
         assert_eq!(rt; board.store(0x10, 9), false);
         assert_eq!(rt; board.region_end(0x10), 0x10);
-        let board = Assembly::sensor(0x8000, READINGS);
+        let board = Assembly::sensor(rt.alloc(), 0x8000, READINGS);
         assert_eq!(rt; seen(&board, 0x8003), (Right::ReadOnly, Some(0x11)));
         assert_eq!(rt; board.region_end(0x8000), 0x801f);
     }
@@ -49,13 +49,13 @@ mod tests {
     // Three boards on a stack, and what their cuts leave.
     fn cut_three(rt: &impl Abort, alloc: Global) -> Result<(), AllocError> {
         let mut stack = Stack::new(alloc);
-        assert_eq!(rt; stack.cut(alloc, 0), Err(CutError::TooFewBoards));
+        assert_eq!(rt; stack.cut(0), Err(CutError::TooFewBoards));
         stack.push(rom(alloc, 0, &[1, 2, 3, 4])?)?;
-        assert_eq!(rt; stack.cut(alloc, 0), Err(CutError::TooFewBoards));
+        assert_eq!(rt; stack.cut(0), Err(CutError::TooFewBoards));
         stack.push(ram(alloc, 0, &[5, 6, 7, 8])?)?;
         stack.push(rom(alloc, 0, &[9, 10, 11, 12])?)?;
-        assert_eq!(rt; stack.cut(alloc, 2), Ok(()));
-        assert_eq!(rt; stack.cut(alloc, 1), Ok(()));
+        assert_eq!(rt; stack.cut(2), Ok(()));
+        assert_eq!(rt; stack.cut(1), Ok(()));
         let Some(board) = stack.top_mut() else {
             return Ok(());
         };

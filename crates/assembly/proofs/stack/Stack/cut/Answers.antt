@@ -8,4 +8,4 @@ returns-in-Ok-clause-ok c =
     let below = rw c.unwrap-lower.ensures at c.pop-2.ensures.items in
     let pushed = rw c.unwrap.ensures at c.push.ensures.items in
     let were = rw below at above in
-    rw (pushed, ← c.self.view_is, were) (cut_boards _ _ _ _ _ c.in-Ok.ensures)
+    rw (pushed, ← c.self.view_is, were) (cut_boards _ _ _ _ _ c.in-Ok.ensures.ok)

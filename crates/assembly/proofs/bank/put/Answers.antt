@@ -1,6 +1,6 @@
 use Rattle.std.proofs.Common.{sym}
 use Rattle.assembly.proofs.Puts.{held_changed}
-use Rattle.assembly.proofs.made.put.Goals as goal
+use Rattle.assembly.proofs.bank.put.Goals as goal
 
 pub returns-in-Some-clause-bytes : goal.returns-in-Some-clause-bytes
 returns-in-Some-clause-bytes c =
