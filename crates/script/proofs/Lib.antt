@@ -1,0 +1,3 @@
+pub mod WordsLemmas
+pub mod NumberLemmas
+pub mod ReadingsLemmas
