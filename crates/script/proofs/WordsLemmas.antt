@@ -1,7 +1,7 @@
 -- Words of a line, one after another.
-use Rattle.std.proofs.Common.{◌≡◌, ℕ, ◌+◌, ◌<◌, Bool, true, false, cond, List, [], ◌∷◌, length, refl, sym, ap, ◌∙◌, arith}
+use Rattle.std.proofs.Common.{◌≡◌, ℕ, ◌<◌, Bool, true, false, cond, List, [], ◌∷◌, length, refl, sym, ap, ◌∙◌, arith}
 use Rattle.std.specs.Prelude.{filter}
-use Rattle.script.specs.Words.{is_blank, onto_first, pieces, is_word, words, first_of, from_word, word_at, after_word}
+use Rattle.script.specs.Words.{is_blank, onto_first, pieces, is_word, words, from_word, word_at, after_word}
 
 -- the pieces after the first one
 abbrev later : List ℕ → List (List ℕ)

@@ -1,9 +1,9 @@
 -- The words that commands take, from left to right, with the first problem that is met.
-use Rattle.std.specs.Prelude.{ℕ, zero, suc, ◌^◌, ◌%◌, List, [], ◌∷◌, length, drop, slice_index, Option, Some, None, Result, Ok, Err, nat_lt, bytes_eq, codes, ◌==◌, if◌then◌else◌}
+use Rattle.std.specs.Prelude.{ℕ, zero, suc, ◌^◌, List, [], ◌∷◌, drop, slice_index, Option, Some, None, option_map, ok_or, Result, Ok, Err, nat_lt, bytes_eq, codes, ◌==◌, if◌then◌else◌}
 use Rattle.script.specs.declared.command_name.CommandName.{CommandName}
 use Rattle.script.specs.declared.problem.Problem.{Problem}
 use Rattle.script.specs.declared.problem.Problem.TheVariants.{WordMissing, WordTooMany, NotANumber, NumberTooLarge, ByteTooLarge, ReadingTooLarge, NotBytes, OddDigits, NoFileName}
-use Rattle.script.specs.Numbers.{number_of, are_digits, bytes_in}
+use Rattle.script.specs.Numbers.{number_of, are_digits, bytes_of}
 use Rattle.script.specs.Orders.{Bytes, given, file}
 
 infixl 10 ◌>>=◌
@@ -24,14 +24,16 @@ within limit too_large (Some n) = if nat_lt n limit then Ok n else Err too_large
 abbrev pub number_in : ℕ → Problem → List ℕ → Result ℕ Problem
 number_in limit too_large word = within limit too_large (number_of word)
 
--- `-` for no bytes; `@` (64) and the name of a file; or the bytes in digits, two each
+-- bytes in digits, two each
 abbrev pub digits_in : List ℕ → Result Bytes Problem
-digits_in word = if are_digits word then (if length word % 2 == 0 then Ok (given (bytes_in word)) else Err OddDigits) else Err NotBytes
+digits_in word = ok_or (option_map given (bytes_of word)) (if are_digits word then OddDigits else NotBytes)
 
+-- the name of a file is one byte or more
 abbrev pub file_in : List ℕ → Result Bytes Problem
 file_in [] = Err NoFileName
 file_in (b ∷ bs) = Ok (file (b ∷ bs))
 
+-- `-` for no bytes, `@` (64) and the name of a file, or digits
 unfoldable pub contents_in : List ℕ → Result Bytes Problem
 contents_in word =
     if bytes_eq word (codes "-") then Ok (given [])

@@ -1,5 +1,5 @@
 -- Commands by what they say, without where their words lie in memory.
-use Rattle.std.specs.Prelude.{ℕ, List, Option}
+use Rattle.std.specs.Prelude.{ℕ, List}
 use Rattle.script.specs.declared.command.Contents.{Contents}
 use Rattle.script.specs.declared.command.Contents.TheVariants as contents
 use Rattle.script.specs.declared.command.Command.{Command}

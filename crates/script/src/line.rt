@@ -1,6 +1,6 @@
 // A line, and the command that it says.
 ghost use Rattle.std.specs.Prelude.{◌≡◌, option_map};
-ghost use Rattle.script.specs.Words.{words, from_word};
+ghost use Rattle.script.specs.Words.{words, from_word, without_return};
 ghost use Rattle.script.specs.Fields.{seen};
 ghost use Rattle.script.specs.Orders.{said};
 ghost use Rattle.script.specs.Lines.{one_number, two_numbers, case_in, board_in, store_in, order_of, parsed};
@@ -140,7 +140,7 @@ pub fn parse(line: &[u8]) -> Result<Option<Command<'_>>, Problem>
     let Some((first, rest)) = next_word(without_return(line)) else {
         return Ok(None);
     };
-    if first[0] == b'#' {
+    if let [b'#', ..] = first {
         return Ok(None);
     }
     match CommandName::of(first) {

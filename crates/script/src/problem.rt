@@ -43,11 +43,17 @@ impl fmt::Display for Problem {
                 "no such command: it is case, board, store, peek, dump, sheets, open, preset, start, step, run, close, reg, show, reads, writes, list or report"
             ),
             Problem::UnknownBoard => {
-                write!(f, "no such board: it is board ram, board rom, board sensor or board cut")
+                write!(
+                    f,
+                    "no such board: it is board ram, board rom, board sensor or board cut"
+                )
             }
             Problem::WordMissing(name) => write!(f, "a word is missing: it is {name}"),
             Problem::WordTooMany(name) => write!(f, "a word too many: it is {name}"),
-            Problem::NotANumber => write!(f, "not a number: it is hexadecimal digits, without a prefix"),
+            Problem::NotANumber => write!(
+                f,
+                "not a number: it is hexadecimal digits, without a prefix"
+            ),
             Problem::NumberTooLarge => write!(f, "too large a number: it is FFFFFFFF at the most"),
             Problem::ByteTooLarge => write!(f, "too large a byte: it is FF at the most"),
             Problem::ReadingTooLarge => write!(f, "too large a reading: it is FFFF at the most"),
@@ -55,7 +61,10 @@ impl fmt::Display for Problem {
                 f,
                 "not bytes: they are two hexadecimal digits each, or - for none, or @ and the name of a file"
             ),
-            Problem::OddDigits => write!(f, "a digit is missing: bytes are two hexadecimal digits each"),
+            Problem::OddDigits => write!(
+                f,
+                "a digit is missing: bytes are two hexadecimal digits each"
+            ),
             Problem::NoFileName => write!(f, "no file: the name of a file follows the @"),
         }
     }

@@ -1,6 +1,6 @@
-use Rattle.std.proofs.Common.{◌≡◌, [], ap, sym, ◌∙◌, arith, rules}
+use Rattle.std.proofs.Common.{◌≡◌, [], ap, sym, arith}
 use Rattle.std.proofs.lemmas.Grind.{common_steps}
-use Rattle.script.specs.Words.{words, from_word, first_of}
+use Rattle.script.specs.Words.{from_word, first_of}
 use Rattle.script.proofs.WordsLemmas.{word_comes, no_word_comes}
 use Rattle.script.proofs.word.next_word.Goals as goal
 
