@@ -45,23 +45,20 @@ unfoldable pub word_in : CommandName → List (List ℕ) → Result (List ℕ ×
 word_in name [] = Err (WordMissing name)
 word_in name (w ∷ ws) = Ok (w, ws)
 
-unfoldable pub number_at : CommandName → List (List ℕ) → Result (ℕ × List (List ℕ)) Problem
-number_at name ws = do
+abbrev pub limited_at : ℕ → Problem → CommandName → List (List ℕ) → Result (ℕ × List (List ℕ)) Problem
+limited_at limit too_large name ws = do
   w ← word_in name ws
-  n ← number_in (2 ^ 32) NumberTooLarge w.0
+  n ← number_in limit too_large w.0
   Ok (n, w.1)
+
+unfoldable pub number_at : CommandName → List (List ℕ) → Result (ℕ × List (List ℕ)) Problem
+number_at name ws = limited_at (2 ^ 32) NumberTooLarge name ws
 
 unfoldable pub byte_at : CommandName → List (List ℕ) → Result (ℕ × List (List ℕ)) Problem
-byte_at name ws = do
-  w ← word_in name ws
-  n ← number_in (2 ^ 8) ByteTooLarge w.0
-  Ok (n, w.1)
+byte_at name ws = limited_at (2 ^ 8) ByteTooLarge name ws
 
 unfoldable pub reading_at : CommandName → List (List ℕ) → Result (ℕ × List (List ℕ)) Problem
-reading_at name ws = do
-  w ← word_in name ws
-  n ← number_in (2 ^ 16) ReadingTooLarge w.0
-  Ok (n, w.1)
+reading_at name ws = limited_at (2 ^ 16) ReadingTooLarge name ws
 
 -- so many readings
 unfoldable pub readings_at : ℕ → CommandName → List (List ℕ) → Result (List ℕ × List (List ℕ)) Problem
