@@ -5,3 +5,4 @@ pub mod Problems
 pub mod Orders
 pub mod Fields
 pub mod Lines
+pub mod Grammar

@@ -1,5 +1,5 @@
 // The commands by name.
-ghost use Rattle.std.specs.Prelude.{◌≡◌, Some};
+ghost use Rattle.std.specs.Prelude.{◌≡◌, Some, IfSome};
 ghost use Rattle.script.specs.Names.{name_text, words_text, usage_text, name_of};
 
 use std::fmt;
@@ -97,15 +97,24 @@ impl CommandName {
     }
 
     // The command whose name a word is.
-    #[tactic(auto, unfolding(crate::specs::Names::name_of))]
     pub fn of(word: &[u8]) -> Option<CommandName>
-        ensures { result ≡ name_of word.now }
+        ensures found { IfSome result (λ n. name_text n ≡ word.now) }
+        ensures only { (n : CommandName) → name_text n ≡ word.now → result ≡ Some n }
+        ensures exact { result ≡ name_of word.now }
     {
-        CommandName::ALL
-            .iter()
-            .copied()
-            .find(|name| name.text().as_bytes() == word)
+        first_named(word)
     }
+}
+
+// The first of all commands whose name a word is.
+#[tactic(auto, unfolding(crate::specs::Names::name_of))]
+fn first_named(word: &[u8]) -> Option<CommandName>
+    ensures { result ≡ name_of word.now }
+{
+    CommandName::ALL
+        .iter()
+        .copied()
+        .find(|name| name.text().as_bytes() == word)
 }
 
 // How the command is used.

@@ -1,8 +1,9 @@
 // A line, and the command that it says.
-ghost use Rattle.std.specs.Prelude.{◌≡◌, option_map};
+ghost use Rattle.std.specs.Prelude.{◌≡◌, ◌↔◌, option_map, IfOk, IfSome};
 ghost use Rattle.script.specs.Words.{words, from_word, without_return};
 ghost use Rattle.script.specs.Fields.{seen};
-ghost use Rattle.script.specs.Orders.{said};
+ghost use Rattle.script.specs.Orders.{Order, said};
+ghost use Rattle.script.specs.Grammar.{Says, SaysNothing};
 ghost use Rattle.script.specs.Lines.{one_number, two_numbers, case_in, board_in, store_in, order_of, parsed};
 
 use super::command::Command;
@@ -132,9 +133,9 @@ fn without_return(line: &[u8]) -> &[u8]
     }
 }
 
-// The command that a line says; none where it has no word or is a comment.
+// A line word by word, with the first problem that is met.
 #[tactic(auto, unfolding(crate::specs::Lines::parsed, crate::specs::Lines::command_of))]
-pub fn parse(line: &[u8]) -> Result<Option<Command<'_>>, Problem>
+fn read(line: &[u8]) -> Result<Option<Command<'_>>, Problem>
     ensures { seen (option_map said) result ≡ parsed line.now }
 {
     let Some((first, rest)) = next_word(without_return(line)) else {
@@ -147,4 +148,17 @@ pub fn parse(line: &[u8]) -> Result<Option<Command<'_>>, Problem>
         Some(name) => command(name, rest).map(Some),
         None => Err(Problem::UnknownCommand),
     }
+}
+
+// The command that a line says; none where it has no word or is a comment.
+pub fn parse(line: &[u8]) -> Result<Option<Command<'_>>, Problem>
+    // What is read is what the line says, and what the line says is read.
+    ensures found { IfOk result (λ c. IfSome c (λ c. Says line.now (said c))) }
+    ensures only { (o : Order) → Says line.now o → seen (option_map said) result ≡ Ok (Some o) }
+    ensures nothing { (result ≡ Ok None) ↔ SaysNothing line.now }
+
+    // Which problem it is where the line says neither: the first from the left.
+    ensures exact { seen (option_map said) result ≡ parsed line.now }
+{
+    read(line)
 }
