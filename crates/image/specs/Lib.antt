@@ -1,0 +1,4 @@
+pub mod Gives
+pub mod Digits
+pub mod Records
+pub mod Intel
