@@ -2,3 +2,4 @@ pub mod Gives
 pub mod Digits
 pub mod Records
 pub mod Intel
+pub mod Motorola

@@ -4,8 +4,10 @@
 mod digits;
 mod fault;
 mod intel;
+mod motorola;
 mod record;
 
 pub use fault::Fault;
 pub use intel::intel_record;
+pub use motorola::motorola_record;
 pub use record::Record;
