@@ -3,3 +3,4 @@ pub mod Digits
 pub mod Records
 pub mod Intel
 pub mod Motorola
+pub mod Lines

@@ -4,6 +4,7 @@
 mod digits;
 mod fault;
 mod intel;
+mod lines;
 mod motorola;
 mod record;
 
