@@ -4,3 +4,5 @@ pub mod Records
 pub mod Intel
 pub mod Motorola
 pub mod Lines
+pub mod Texts
+pub mod Reading

@@ -21,3 +21,10 @@ pub enum Fault {
     // a line that is not empty after the end
     AfterEnd,
 }
+
+// A fault, with the number of its line. The first line is 1.
+#[derive(Clone, Copy, PartialEq, Eq, Debug)]
+pub struct Problem {
+    pub line: usize,
+    pub fault: Fault,
+}

@@ -6,9 +6,12 @@ mod fault;
 mod intel;
 mod lines;
 mod motorola;
+mod notation;
+mod reader;
 mod record;
 
-pub use fault::Fault;
+pub use fault::{Fault, Problem};
 pub use intel::intel_record;
 pub use motorola::motorola_record;
+pub use notation::Notation;
 pub use record::Record;
