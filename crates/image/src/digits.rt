@@ -1,5 +1,5 @@
 // Bytes written as hexadecimal digits, two a byte, the high one first.
-ghost use Rattle.std.specs.Prelude.{◌≡◌, ◌+◌, ◌%◌, ◌<◌, ◌≤◌, length, take, drop, sum, slice_index, is_some};
+ghost use Rattle.std.specs.Prelude.{◌≡◌, ◌+◌, ◌%◌, ◌^◌, ◌<◌, ◌≤◌, length, take, drop, sum, slice_index, is_some};
 ghost use Rattle.std.specs.List.{list_all};
 ghost use Rattle.image.specs.Digits.{digit_of, pair, spelled, bytes_of, word};
 ghost use Rattle.image.specs.Gives.{Gives};
@@ -47,7 +47,8 @@ pub fn check_digits(text: &[u8]) -> Result<(), Fault>
 // How many bytes the digits spell.
 #[tactic(auto, using(crate::proofs::Spelled::length_spelled))]
 pub fn count_of(digits: &[u8]) -> usize
-    ensures { result ≡ length (spelled digits.now) }
+    ensures count { result ≡ length (spelled digits.now) }
+    ensures small { result < 2 ^ 63 }
 {
     digits.len() / 2
 }
