@@ -1,3 +1,4 @@
 pub mod Spelled
 pub mod LineEnds
 pub mod Steps
+pub mod Runs

@@ -6,3 +6,4 @@ pub mod Motorola
 pub mod Lines
 pub mod Texts
 pub mod Reading
+pub mod Image

@@ -2,6 +2,7 @@
 #![tactic(auto)]
 
 mod digits;
+mod extent;
 mod fault;
 mod intel;
 mod lines;
@@ -9,9 +10,12 @@ mod motorola;
 mod notation;
 mod reader;
 mod record;
+mod tell;
 
+pub use extent::{Extent, measure};
 pub use fault::{Fault, Problem};
 pub use intel::intel_record;
 pub use motorola::motorola_record;
 pub use notation::Notation;
 pub use record::Record;
+pub use tell::notation_of;
