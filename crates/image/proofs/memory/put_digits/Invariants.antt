@@ -1,0 +1,14 @@
+use Rattle.std.proofs.Common.{◌≡◌, ◌+◌, ◌^◌, ◌≤◌, length}
+use Rattle.image.specs.Digits.{spelled}
+use Rattle.image.specs.Texts.{cells}
+use Rattle.image.specs.Image.{filled}
+use Rattle.image.proofs.memory.put_digits.Given as goal
+
+abbrev pub invariant-loop-rest : goal.invariant-loop-rest
+invariant-loop-rest l = record {
+  room : l.address + length (spelled l.rest) ≤ 2 ^ 32;
+  done : filled l.base l.memory (cells l.address (spelled l.rest)) ≡ filled l.base l.fn.memory (cells l.start (spelled l.digits));
+}
+
+abbrev pub decreases-loop-rest : goal.decreases-loop-rest
+decreases-loop-rest l = length l.rest
