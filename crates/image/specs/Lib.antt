@@ -7,3 +7,4 @@ pub mod Lines
 pub mod Texts
 pub mod Reading
 pub mod Image
+pub mod Shown
