@@ -43,7 +43,7 @@ abbrev pub ended : ℕ → List (List ℕ) → Cells
 ended number [] = Ok []
 ended number (line ∷ lines) = if length (strip_carriage_return line) == 0 then ended (number + 1) lines else fails number AfterEnd
 
--- what a line says whose addresses are counted from a base; and then either what the lines after it say, counted from the base that it leaves, or, at the end, that they are empty
+-- what a line says whose addresses are counted from a base, and then either what the lines after it say, counted from the base that it leaves, or, at the end, that they are empty; a record's bytes lie on past its base and 64 K, but not past FFFFFFFFh
 abbrev pub by_line : ℕ → ℕ → Result Said Fault → (ℕ → Cells) → Cells → Cells
 by_line number base (Err fault) on over = fails number fault
 by_line number base (Ok (Bytes address bytes)) on over =

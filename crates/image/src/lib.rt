@@ -15,9 +15,6 @@ mod tell;
 
 pub use extent::{Extent, measure};
 pub use fault::{Fault, Problem};
-pub use intel::intel_record;
 pub use memory::fill;
-pub use motorola::motorola_record;
 pub use notation::Notation;
-pub use record::Record;
 pub use tell::notation_of;
