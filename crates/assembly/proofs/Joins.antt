@@ -1,7 +1,7 @@
 -- What banks one after another mean once two rows of them are joined.
-use Rattle.std.proofs.Common.{◌≡◌, ◌≢◌, ◌<◌, ◌≤◌, ℕ, ◌-◌, suc, Bool, true, false, cond, nat_lt, List, [], ◌∷◌, ◌++◌, take, ap, sym, ◌∙◌, refl, arith}
+use Rattle.std.proofs.Common.{◌≡◌, ◌≢◌, ℕ, ◌-◌, suc, Bool, true, false, cond, nat_lt, List, [], ◌∷◌, ◌++◌, take, ap, ◌∙◌, refl, arith}
 use Rattle.std.proofs.lemmas.Bool.Decides.{nat_tests}
-use Rattle.assembly.specs.Meaning.{Meaning, cut_of}
+use Rattle.assembly.specs.Meaning.{cut_of}
 use Rattle.assembly.specs.Banks.{bank_meaning}
 use Rattle.assembly.specs.Joints.{answering, passed}
 use Rattle.assembly.specs.Made.{joined}

@@ -1,8 +1,8 @@
 -- A store in RAM, by the place of its address among the bytes.
-use Rattle.std.proofs.Common.{◌≡◌, ℕ, ◌-◌, ◌<◌, ◌==◌, Bool, true, false, cond, ◌&&◌, Some, Option, ap, subst, sym, ◌∙◌, refl, arith}
+use Rattle.std.proofs.Common.{◌≡◌, ℕ, ◌-◌, true, Some, subst, arith}
 use Rattle.std.proofs.lemmas.Bool.Decides.{nat_tests}
-use Rattle.board.specs.declared.Right.TheVariants.{NoAccess, ReadWrite}
-use Rattle.board.specs.Meaning.{covers, place, over, held, changed, stored, writable}
+use Rattle.board.specs.declared.Right.TheVariants.{ReadWrite}
+use Rattle.board.specs.Meaning.{covers, place, over, held, changed, stored}
 
 -- an address that has a place is one of the n
 covered : (base n a i : ℕ) → place base n a ≡ Some i → (covers base n a ≡ true) × (i ≡ a - base)

@@ -1,5 +1,5 @@
 -- Banks one after another: a first one, and then a joint for each other, the address from which on its bank answers.
-use Rattle.std.specs.Prelude.{ℕ, zero, suc, ◌^◌, cond, List, [], ◌∷◌, nat_lt}
+use Rattle.std.specs.Prelude.{ℕ, suc, ◌^◌, cond, List, [], ◌∷◌, nat_lt}
 use Rattle.assembly.specs.declared.bank.Bank.{Bank}
 use Rattle.assembly.specs.declared.made.Joint.{Joint}
 

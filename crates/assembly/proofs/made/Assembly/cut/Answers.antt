@@ -1,4 +1,3 @@
-use Rattle.std.proofs.Common.{◌≡◌, [], ◌∷◌, ◌++◌}
 use Rattle.std.proofs.lemmas.List.{append_assoc}
 use Rattle.assembly.proofs.Joins.{joined_cut}
 use Rattle.assembly.proofs.made.Assembly.cut.Goals as goal

@@ -1,4 +1,4 @@
-use Rattle.std.proofs.Common.{◌≡◌, ◌<◌, ◌^◌, subst, arith}
+use Rattle.std.proofs.Common.{◌<◌, ◌^◌, subst, arith}
 use Rattle.board.specs.Region.{RegionEnd}
 use Rattle.assembly.specs.Banks.{bank_meaning}
 use Rattle.assembly.proofs.Stretches.{stretch_of_bank}

@@ -1,4 +1,3 @@
-use Rattle.std.proofs.Common.{◌≡◌, [], ◌∷◌, ◌++◌}
 use Rattle.assembly.proofs.Cuts.{cut_boards}
 use Rattle.assembly.proofs.stack.Stack.cut.Goals as goal
 
