@@ -75,16 +75,24 @@ impl<'a> Reader<'a> {
         }
     }
 
+    // What is to come where no line is left.
+    fn at_end(self) -> Result<Option<(Piece<'a>, Reader<'a>)>, Problem>
+        requires { length self.rest.now ≡ 0 }
+        ensures { Steps self.entry result }
+    {
+        if self.ended {
+            Ok(None)
+        } else {
+            Err(self.problem(Fault::NoEnd))
+        }
+    }
+
     // What the next line says, and what is left then; nothing where the text ends.
     pub fn next(self) -> Result<Option<(Piece<'a>, Reader<'a>)>, Problem>
         ensures { Steps self.entry result }
     {
         if self.rest.is_empty() {
-            return if self.ended {
-                Ok(None)
-            } else {
-                Err(self.problem(Fault::NoEnd))
-            };
+            return self.at_end();
         }
         let (line, rest) = first_line(self.rest);
         let line = content(line);

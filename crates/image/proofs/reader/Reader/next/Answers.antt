@@ -10,7 +10,7 @@ pub returns-in-Ok-Base : goal.returns-in-Ok-Base
 returns-in-Ok-Base c =
     let s = c.args.self in
     let rest = lines c.first_line.result.1.now in
-    let open_now = c.if-self-2.false in
+    let open_now = c.if-self.false in
     let what : line_of s.notation (strip_carriage_return c.first_line.result.0.now) ≡ Ok (Base c.in-Ok-Base.base) = ap (line_of s.notation) (sym c.content-line.ensures) ∙ c.in-Ok-Base.ensures ∙ ap said_ok c.in-Ok-Base.field-0-is in (
       ap (λ t. cond t (ended s.line (lines s.rest.now)) (told s.notation s.line s.base (lines s.rest.now))) open_now
           ∙ told_next s.notation s.line s.base _ c.first_line.result.0.now rest _ c.first_line.ensures.lines what
@@ -23,7 +23,7 @@ pub returns-in-Ok-End : goal.returns-in-Ok-End
 returns-in-Ok-End c =
     let s = c.args.self in
     let rest = lines c.first_line.result.1.now in
-    let open_now = c.if-self-2.false in
+    let open_now = c.if-self.false in
     let what : line_of s.notation (strip_carriage_return c.first_line.result.0.now) ≡ Ok End = ap (line_of s.notation) (sym c.content-line.ensures) ∙ c.in-Ok-End.ensures ∙ ap said_ok c.in-Ok-End.field-0-is in (
       ap (λ t. cond t (ended s.line (lines s.rest.now)) (told s.notation s.line s.base (lines s.rest.now))) open_now
           ∙ told_next s.notation s.line s.base _ c.first_line.result.0.now rest _ c.first_line.ensures.lines what
