@@ -46,6 +46,7 @@ impl Cell {
 }
 
 // The two sheets, how many lines of each are used, and how many steps are complete.
+// Why arrays with counts: as with a session, a step gets the sheets whole, and lines past the used ones are left as they are.
 #[derive(Drop)]
 struct Sheets {
     reads: [ReadLine; 16],

@@ -19,8 +19,7 @@ pub trait Cells {
     fn right(&self) -> Right
         ensures { result ≡ right };
 
-    // Why these three for each kind of cells: a slice that is lent, one that is lent to be changed and an array of readings
-    // are got at each in its own way.
+    // Why these three for each kind of cells, and no default: each indexes a type of its own, and what `put` owes goes by the right.
     fn count(&self) -> usize
         ensures { result ≡ count self.now };
 

@@ -8,7 +8,8 @@ use super::access::Bus;
 use super::refusal::Refusal;
 use number::width::{Size, Width};
 
-// Why an address and a size as parameters, and no struct of both: it would be made for the call alone, and taken apart in it.
+// Why an address and a size as parameters, and no struct of both: each of these functions would take it apart at once, and
+// their definitions name the two.
 
 // The number at an address, the lowest byte first.
 pub fn fetch_number<B: Bus>(bus: &mut B, address: u32, size: Size) -> Result<u64, Refusal>

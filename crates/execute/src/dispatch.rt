@@ -13,6 +13,8 @@ use instruction::{Action, Instruction, OneOperation};
 use processor::Cpu;
 use strings::string_instruction;
 
+// Why bus, registers and the next address as parameters: as for the instructions of one operand themselves.
+
 // An instruction of one operand.
 fn one_operand<B: Bus>(
     bus: &mut B,

@@ -13,8 +13,8 @@ use number::flags::{Flags, holds};
 use number::width::Size;
 use processor::{Cpu, displaced, locate, moved, pointer, result};
 
-// Why bus, registers, operand and the next address as parameters, and no struct of them: the bus is lent to each call, and
-// the registers that one call leaves are what the next gets.
+// Why bus, registers, operand and the next address as parameters, and no struct of them: the bus is lent to each call,
+// the registers that one call leaves are what the next gets, and the definitions name the operand and the next address.
 
 // The register that points to the top of the stack.
 const STACK: u8 = 31;

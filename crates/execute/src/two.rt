@@ -40,6 +40,8 @@ pub(crate) fn left<B: Bus>(
     }
 }
 
+// Why bus, registers and the next address as parameters: as for instructions of one operand.
+
 // An instruction of two operands, before the address `next`: the source's location, changes and value, then the
 // destination's, then the result.
 pub(crate) fn two_operands<B: Bus>(

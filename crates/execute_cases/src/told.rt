@@ -42,6 +42,8 @@ impl From<WriteLine> for Told {
     }
 }
 
+// Why functions that write to a line, and no Display: what they tell is put together from the case, the board and both sheets.
+
 // The outcome, the PC and the flags.
 pub fn tell_outcome(
     line: &mut String,

@@ -25,6 +25,7 @@ impl fmt::Display for Reads<'_> {
 }
 
 // Lines of the writes sheet, one to a row, each with its step.
+// Why a type beside Reads: those stand eight to a row, and have no step.
 #[derive(Drop)]
 pub struct Writes<'a> {
     pub lines: &'a [WriteLine],

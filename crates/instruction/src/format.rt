@@ -15,8 +15,8 @@ use super::part::Part;
 use bus::{Bus, Refusal};
 use number::width::Size;
 
-// Why bus, PC, and what the bytes said so far, as parameters, and no struct of them: the bus is lent to each call, and each
-// byte that is fetched adds to the rest.
+// Why bus, PC, and what the bytes said so far, as parameters, and no struct of them: the bus is lent to each call, each
+// byte that is fetched adds to the rest, and the definitions name PC, the operation and its sizes one by one.
 
 // The sizes and operation of an instruction of two operands.
 #[derive(Clone, Copy, PartialEq, Eq, Debug)]

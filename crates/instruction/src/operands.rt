@@ -14,6 +14,7 @@ use number::width::{Arithmetic, Size, Width};
 // Why bus, place and size as parameters, and no struct of them: the bus is lent to each call, and the place moves on with it.
 
 // The low bits of a number of that size, with their sign.
+// Why a match: each size reads them by the conversion of its own type.
 fn sign_extended(number: u64, size: Size) -> i32
     ensures { result ≡ sign_extension size number }
 {

@@ -5,6 +5,7 @@ ghost use Rattle.printout.specs.Text.{byte_at_text};
 use bus::{ReadLine, WriteLine};
 use std::fmt;
 
+// Why a type beside the lines: those of the writes sheet show it too, each with its step before it.
 #[derive(Clone, Copy)]
 pub struct ByteAt {
     pub address: u32,

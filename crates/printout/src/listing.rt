@@ -87,6 +87,7 @@ impl fmt::Display for Line {
 }
 
 // The instructions of a board that are still to be told.
+// Why a type beside Regions: what it gives, and how it goes on after that, is another thing.
 #[derive(Drop)]
 pub struct Listing<'a, B> {
     board: &'a B,

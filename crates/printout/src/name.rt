@@ -45,7 +45,7 @@ impl fmt::Display for OneName {
 }
 
 // A branch by its condition, of whose number the low four bits count. The eleventh is not served.
-// Why a u8 for a condition: an Action has it so.
+// Why a function of a u8, and no Display: an Action has a condition so, and a struct round it would be made for its name alone.
 pub(crate) fn branch_name(condition: u8) -> &'static str
     ensures { result.now ≡ branch_name_of condition }
 {

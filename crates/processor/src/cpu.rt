@@ -27,7 +27,7 @@ impl Cpu {
         ensures { result ≡ with_register self n value }
     {
         let mut cpu = self;
-        // Why a test and no get_mut: of what is written through that, a proof learns the length of the array alone.
+        // Why a copy with a test, and no get_mut: of what is written through that, a proof learns the length of the array alone.
         if usize::from(n) < cpu.registers.len() {
             cpu.registers[usize::from(n)] = value;
         }

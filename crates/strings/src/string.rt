@@ -40,8 +40,8 @@ fn character(size: Size, string: u32, i: u32) -> u32
 }
 
 // A source and a destination of characters of one size: where they lie, and how many characters each has.
-// Why bus, registers and the next address stay parameters of its methods: the bus is lent to each call, and the registers that
-// one call leaves are what the next gets.
+// Why bus, registers and the next address stay parameters of its methods: the bus is lent to each call, the registers that one
+// call leaves are what the next gets, and the definitions name the next address, as they name the fields of this one by one.
 #[derive(Clone, Copy)]
 struct Transfer {
     size: Size,

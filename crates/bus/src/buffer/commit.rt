@@ -39,7 +39,7 @@ impl StoreBuffer {
         if !fits(used, self.len, writes.len()) {
             return false;
         }
-        // Why an index for the lines: of a slice that an iterator lends out to be written, the prover knows no longer what it holds.
+        // Why an index for the lines: of a slice that a zip writes through, the prover knows no longer what it holds.
         for (i, byte) in self.bytes[..self.len].iter().enumerate() {
             let byte = *byte;
             let address = self.base.wrapping_add(i as u32);
