@@ -133,7 +133,7 @@ def extend(op, n, w, to):
 
 
 def case(op, w, dst, src, flags, answer):
-    cases.append("%s %d %x %s %x" % (op, w, dst, src, flags))
+    cases.append("%s %s %x %s %x" % (op, w, dst, src, flags))
     answers.append(answer)
 
 
@@ -175,6 +175,15 @@ for w in (8, 16, 32, 64):
         for place in list(range(10)) + [2 ** 32 - 1]:
             byte = number_of(bits_of(low >> 8 * place, 8)) if place < 10 else 0
             case("bytes", w, n, str(place), 0, "%x %x %d" % (byte, low, w // 8))
+# a width is read as a number, and a condition has none
+for w in ("08", "+8", "0008"):
+    case("add", w, 0x7F, "1", 0, add(0x7F, 1, 8, 0))
+    case("bytes", w, 0xFEDC, "0", 0, "dc dc 1")
+for to in ("032", "+32"):
+    case("movs", "08", 0x80, to, 0, extend("movs", 0x80, 8, 32))
+for w in (0, 7, 64, 2 ** 32 - 1):
+    for flags in (0, 15):
+        case("if", w, 4, "0", flags, "true" if condition(4, flags) else "false")
 
 for name, lines in (("stdin", cases), ("stdout", answers)):
     with open(os.path.join(HERE, name), "w") as f:

@@ -3,13 +3,12 @@
 // reads lines that it left, or the refusal with its place and the lines.
 #![tactic(auto)]
 
-use anyhow::Context;
+use anyhow::{Context, bail};
 use board::{Board, Cut, Rom};
 use bus::{ReadLine, Refusal, StepBus, StoreBuffer};
 use instruction::{Instruction, decode};
 use std::alloc::Global;
 use std::io::{BufRead, BufReader};
-use std::str;
 
 // What decoding comes to, and how many lines of the reads sheet are used then.
 fn attempt<B: Board>(
@@ -44,10 +43,26 @@ fn answer(rt: &HostRuntime, board: &impl Board, pc: u32) -> anyhow::Result<()> {
     Ok(())
 }
 
+// Why here and in execute_cases: the two programs share no crate that reads text.
+fn digit(byte: u8) -> anyhow::Result<u8> {
+    match char::from(byte).to_digit(16) {
+        Some(value) => Ok(value as u8),
+        None => bail!("no hexadecimal digit"),
+    }
+}
+
+// Bytes, two digits each; half a byte at the end says nothing.
 fn bytes_of(heap: Global, text: &str) -> anyhow::Result<Vec<u8>> {
     let mut bytes = Vec::new(heap);
-    for pair in text.as_bytes().chunks_exact(2) {
-        bytes.push(u8::from_str_radix(str::from_utf8(pair)?, 16)?)?;
+    for pair in text.as_bytes().chunks(2) {
+        match pair {
+            [high, low] => bytes.push(digit(*high)? << 4 | digit(*low)?)?,
+            half => {
+                for last in half {
+                    digit(*last)?;
+                }
+            }
+        }
     }
     Ok(bytes)
 }

@@ -1,6 +1,6 @@
 // Reading a case.
 use super::parts::{Memory, Part};
-use anyhow::Context;
+use anyhow::{Context, bail};
 use number::flags::Flags;
 use processor::Cpu;
 use std::alloc::Global;
@@ -17,6 +17,14 @@ pub struct Case {
 // The next word of a line that has one.
 fn next_word<'a>(words: &mut SplitWhitespace<'a>) -> anyhow::Result<&'a str> {
     words.next().context("a word is missing")
+}
+
+// Why here and in decode_cases: the two programs share no crate that reads text.
+fn digit(byte: u8) -> anyhow::Result<u8> {
+    match char::from(byte).to_digit(16) {
+        Some(value) => Ok(value as u8),
+        None => bail!("no hexadecimal digit"),
+    }
 }
 
 fn read_flags(word: &str) -> anyhow::Result<Flags> {
@@ -66,17 +74,28 @@ impl Case {
         }
         let register = name
             .strip_prefix('R')
-            .context("a preset is of a register or of memory")?;
+            .context("a preset is of a register or of memory")?
+            .parse::<u8>()?;
         let value = u32::from_str_radix(value, 16)?;
-        self.cpu = self.cpu.with_register(register.parse::<u8>()?, value);
+        self.cpu = self.cpu.with_register(register, value);
         Ok(())
     }
 
-    // Bytes, two digits each, from an address on.
+    // Bytes, two digits each, from an address on; half a byte at the end says nothing.
     fn preset_bytes(&mut self, address: u32, text: &str) -> anyhow::Result<()> {
-        for (i, digits) in (0..u32::MAX).zip(text.as_bytes().chunks_exact(2)) {
-            let byte = u8::from_str_radix(str::from_utf8(digits)?, 16)?;
-            self.memory.poke(address.wrapping_add(i), byte);
+        for (i, digits) in text.as_bytes().chunks(2).enumerate() {
+            match digits {
+                [high, low] => {
+                    let byte = digit(*high)? << 4 | digit(*low)?;
+                    let address = address.wrapping_add((i & 0xffff_ffff) as u32);
+                    self.memory.poke(address, byte);
+                }
+                half => {
+                    for last in half {
+                        digit(*last)?;
+                    }
+                }
+            }
         }
         Ok(())
     }

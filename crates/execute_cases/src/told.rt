@@ -59,7 +59,7 @@ pub fn tell_outcome(
         }
     }
     let pc = cpu.pc;
-    let flags = u8::from(cpu.flags);
+    let flags = cpu.flags.number();
     write!(line, " {pc:X} {flags:04b}")?;
     Ok(())
 }

@@ -3,17 +3,19 @@
 // Of the answer the first word is the number, and the second the flags: CY, OV, S, Z.
 #![tactic(auto)]
 
-use anyhow::{Context, bail};
+use anyhow::bail;
 use number::arithmetic::{Computed, add, and, not, or, subtract, test, xor};
 use number::flags::{Flags, holds};
 use number::shift::{rotate, shift_arithmetic, shift_logical};
 use number::width::{Arithmetic, Size, Width, one, sign_extend, zero, zero_extend};
 use std::io::{BufRead, BufReader};
+use std::str::SplitWhitespace;
 
 #[derive(Drop)]
 struct Case<'a> {
     operation: &'a str,
-    size: Size,
+    // none where no width has so many bits
+    size: Option<Size>,
     dst: u64,
     src: &'a str,
     flags: Flags,
@@ -24,13 +26,12 @@ impl<'a> TryFrom<&'a str> for Case<'a> {
 
     fn try_from(line: &'a str) -> anyhow::Result<Case<'a>> {
         let mut words = line.split_whitespace();
-        let mut word = || words.next().context("a word is missing");
         Ok(Case {
-            operation: word()?,
-            size: size(word()?)?,
-            dst: hex(word()?)?,
-            src: word()?,
-            flags: flags(hex(word()?)?),
+            operation: next_word(&mut words)?,
+            size: size(next_word(&mut words)?.parse::<u32>()?),
+            dst: hex(next_word(&mut words)?)?,
+            src: next_word(&mut words)?,
+            flags: flags(hex(next_word(&mut words)?)?),
         })
     }
 }
@@ -47,18 +48,26 @@ impl<'a> Case<'a> {
     }
 }
 
+// The next word of a line that has one.
+fn next_word<'a>(words: &mut SplitWhitespace<'a>) -> anyhow::Result<&'a str> {
+    let Some(word) = words.next() else {
+        bail!("a word is missing");
+    };
+    Ok(word)
+}
+
 fn hex(word: &str) -> anyhow::Result<u64> {
     Ok(u64::from_str_radix(word, 16)?)
 }
 
-// The width of so many bits.
-fn size(bits: &str) -> anyhow::Result<Size> {
+// The width of so many bits, if there is one.
+fn size(bits: u32) -> Option<Size> {
     match bits {
-        "8" => Ok(Size::Byte),
-        "16" => Ok(Size::Halfword),
-        "32" => Ok(Size::Word),
-        "64" => Ok(Size::Doubleword),
-        _ => bail!("no such width"),
+        8 => Some(Size::Byte),
+        16 => Some(Size::Halfword),
+        32 => Some(Size::Word),
+        64 => Some(Size::Doubleword),
+        _ => None,
     }
 }
 
@@ -84,14 +93,18 @@ fn computed<W: Arithmetic>(case: &Case) -> anyhow::Result<Computed<W>> {
         "shl" => shift_logical(dst, case.count()?),
         "sha" => shift_arithmetic(dst, case.count()?),
         "rot" => rotate(dst, case.count()?),
-        _ => bail!("no such operation"),
+        _ => {
+            // SRC is read as a number before the operation is looked for
+            hex(case.src)?;
+            bail!("no such operation")
+        }
     })
 }
 
 fn show_computed<W: Arithmetic>(rt: &HostRuntime, case: &Case) -> anyhow::Result<()> {
     let result = computed::<W>(case)?;
     let number = result.value.to_u64();
-    let after = u8::from(result.flags);
+    let after = result.flags.number();
     println!(rt; "{number:x} {after:04b}")?;
     Ok(())
 }
@@ -108,12 +121,22 @@ fn show_extended<A: Width, B: Width>(rt: &HostRuntime, case: &Case) -> anyhow::R
     Ok(())
 }
 
-// The byte at a place, the number that the bytes of DST make, and how many bytes that number has.
-fn show_bytes<W: Width>(rt: &HostRuntime, case: &Case) -> anyhow::Result<()> {
+// The byte at a place, and the number that the bytes of DST make.
+fn bytes<W: Width>(case: &Case, place: u32) -> (u8, u64) {
+    let number = W::from_bytes(case.dst.to_le_bytes());
+    (W::low(case.dst).byte(place), number.to_u64())
+}
+
+// Both, and how many bytes a number of the width has.
+fn show_bytes(rt: &HostRuntime, case: &Case, size: Size) -> anyhow::Result<()> {
     let place = case.src.parse::<u32>()?;
-    let byte = W::low(case.dst).byte(place);
-    let number = W::from_bytes(case.dst.to_le_bytes()).to_u64();
-    let count = case.size.bytes();
+    let (byte, number) = match size {
+        Size::Byte => bytes::<u8>(case, place),
+        Size::Halfword => bytes::<u16>(case, place),
+        Size::Word => bytes::<u32>(case, place),
+        Size::Doubleword => bytes::<u64>(case, place),
+    };
+    let count = size.bytes();
     println!(rt; "{byte:x} {number:x} {count}")?;
     Ok(())
 }
@@ -127,20 +150,17 @@ fn show_taken(rt: &HostRuntime, case: &Case) -> anyhow::Result<()> {
 fn show(rt: &HostRuntime, case: &Case) -> anyhow::Result<()> {
     match (case.operation, case.size) {
         ("if", _) => show_taken(rt, case),
-        ("movs" | "movz", from) => match (from, size(case.src)?) {
-            (Size::Byte, Size::Halfword) => show_extended::<u8, u16>(rt, case),
-            (Size::Byte, Size::Word) => show_extended::<u8, u32>(rt, case),
-            (Size::Halfword, Size::Word) => show_extended::<u16, u32>(rt, case),
+        ("movs" | "movz", from) => match (from, size(case.src.parse::<u32>()?)) {
+            (Some(Size::Byte), Some(Size::Halfword)) => show_extended::<u8, u16>(rt, case),
+            (Some(Size::Byte), Some(Size::Word)) => show_extended::<u8, u32>(rt, case),
+            (Some(Size::Halfword), Some(Size::Word)) => show_extended::<u16, u32>(rt, case),
             _ => bail!("no such extension"),
         },
-        ("bytes", Size::Byte) => show_bytes::<u8>(rt, case),
-        ("bytes", Size::Halfword) => show_bytes::<u16>(rt, case),
-        ("bytes", Size::Word) => show_bytes::<u32>(rt, case),
-        ("bytes", Size::Doubleword) => show_bytes::<u64>(rt, case),
-        (_, Size::Byte) => show_computed::<u8>(rt, case),
-        (_, Size::Halfword) => show_computed::<u16>(rt, case),
-        (_, Size::Word) => show_computed::<u32>(rt, case),
-        (_, Size::Doubleword) => bail!("no arithmetic on doublewords"),
+        ("bytes", Some(size)) => show_bytes(rt, case, size),
+        (_, Some(Size::Byte)) => show_computed::<u8>(rt, case),
+        (_, Some(Size::Halfword)) => show_computed::<u16>(rt, case),
+        (_, Some(Size::Word)) => show_computed::<u32>(rt, case),
+        _ => bail!("no such width"),
     }
 }
 
