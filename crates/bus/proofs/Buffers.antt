@@ -27,7 +27,7 @@ module _ (base a : ℕ) (low : base < 2 ^ 32) (low' : a < 2 ^ 32) where
   not_offset i h n e = n (omega arith)
 
   -- an address before or after the run is not set in it
-  set_outside : (bs : List ℕ) (i : ℕ) (d : Option ℕ) → i + length bs ≤ 2 ^ 32 → (offset base a < i) ⊎ (i + length bs ≤ offset base a) → latest (λ c. c.0) (λ c. Some c.1) a d (cells base i bs) ≡ d
+  pub set_outside : (bs : List ℕ) (i : ℕ) (d : Option ℕ) → i + length bs ≤ 2 ^ 32 → (offset base a < i) ⊎ (i + length bs ≤ offset base a) → latest (λ c. c.0) (λ c. Some c.1) a d (cells base i bs) ≡ d
   set_outside [] i d h o = refl
   set_outside (b ∷ bs) i d h o =
       let e = ne_eqb (above base i) a (not_offset i (omega arith) (λ q. elim o [ inl x ↦ omega arith | inr x ↦ omega arith ])) in
@@ -35,7 +35,7 @@ module _ (base a : ℕ) (low : base < 2 ^ 32) (low' : a < 2 ^ 32) where
       ∙ set_outside bs (suc i) d (omega arith) (elim o [ inl x ↦ inl (omega arith) | inr x ↦ inr (omega arith) ])
 
   -- one within it is
-  set_inside : (bs : List ℕ) (i : ℕ) (d : Option ℕ) → i + length bs ≤ 2 ^ 32 → i ≤ offset base a → offset base a < i + length bs → latest (λ c. c.0) (λ c. Some c.1) a d (cells base i bs) ≡ Some (get_or bs (offset base a - i) 0)
+  pub set_inside : (bs : List ℕ) (i : ℕ) (d : Option ℕ) → i + length bs ≤ 2 ^ 32 → i ≤ offset base a → offset base a < i + length bs → latest (λ c. c.0) (λ c. Some c.1) a d (cells base i bs) ≡ Some (get_or bs (offset base a - i) 0)
   set_inside [] i d h l m = absurd (omega arith)
   set_inside (b ∷ bs) i d h l m = elim (cases_eq (offset base a) i) [
     | inl q ↦ let e = eq-eqb (above base i) a (at_offset i q) in

@@ -24,6 +24,16 @@ impl From<Flags> for u8 {
     }
 }
 
+impl Flags {
+    // The same number, for who asks by a call, and that it is one of sixteen.
+    pub fn number(self) -> u8
+        ensures number { result ≡ number_of self }
+        ensures bound { result < 16 }
+    {
+        u8::from(self)
+    }
+}
+
 // For each condition, where it holds: bit k says whether it does at the flags whose number is k.
 // Why a table of numbers, and no `match`: the rules number the conditions, and one computation shows all sixteen to be right.
 const HOLDS: [u16; 16] = [

@@ -1,5 +1,6 @@
 // Accepting a step.
 ghost use Rattle.std.specs.Prelude.{◌≡◌, ◌+◌, ◌≤◌, length, if◌then◌else◌, nat_le};
+ghost use Rattle.bus.specs.Buffer.{OneRun};
 ghost use Rattle.bus.specs.Commit.{stores, write_lines, has_room, entered};
 
 use super::StoreBuffer;
@@ -14,10 +15,11 @@ fn fits(used: usize, more: usize, all: usize) -> bool
 }
 
 impl StoreBuffer {
-    // How many bytes wait.
+    // How many bytes wait. They are one run, whoever asks.
     pub fn len(&self) -> usize
         ensures count { result ≡ length self.now }
         ensures few { result ≤ 256 }
+        ensures run { OneRun self.now }
     {
         self.len
     }
