@@ -31,30 +31,40 @@ fn used<L>(sheet: &[L], from: usize, count: usize) -> &[L] {
 }
 
 // The first steps, each with what it changed and listed.
-pub fn trace<B: Board>(rt: &HostRuntime, board: &mut B, steps: u32) -> io::Result<()> {
-    let mut reads = [ReadLine::default(); READS];
-    let mut writes = [WriteLine::default(); WRITES];
+fn trace_steps<B: Board>(
+    rt: &HostRuntime,
+    board: &mut B,
+    reads: &mut [ReadLine],
+    writes: &mut [WriteLine],
+    steps: u32,
+) -> io::Result<()> {
     let mut running = Setup::new().start(unit::ROM);
     for _ in 0..steps {
         let before = running.machine();
         println!(rt; "{}", Line::at(&*board, before.cpu.pc))?;
-        let answer = running.step(board, &mut reads, &mut writes);
+        let answer = running.step(board, reads, writes);
         let after = running.machine();
         if answer.refusal.is_some() {
             println!(rt; "      {answer}")?;
         }
         println!(rt; "      {}", ChangeText { before, after })?;
         let read = Reads {
-            lines: used(&reads, before.read, after.read),
+            lines: used(reads, before.read, after.read),
             indent: "      read  ",
         };
         let written = Writes {
-            lines: used(&writes, before.written, after.written),
+            lines: used(writes, before.written, after.written),
             indent: "      write ",
         };
         print!(rt; "{read}{written}")?;
     }
     Ok(())
+}
+
+pub fn trace<B: Board>(rt: &HostRuntime, board: &mut B, steps: u32) -> io::Result<()> {
+    let mut reads = [ReadLine::default(); READS];
+    let mut writes = [WriteLine::default(); WRITES];
+    trace_steps(rt, board, &mut reads, &mut writes, steps)
 }
 
 // The job: a preset for a register that there is not, a run that stops for want of free reads lines, and one that goes on

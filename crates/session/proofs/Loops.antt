@@ -27,7 +27,7 @@ unfolding tries
 turns_none t = stays t _ _ refl
 
 module _ (i : ℕ) (t u v : Moment) where
-  turns_more : (r : Result (Unit {0}) Refusal) → Comes (tries_at i t) (so_far i) t u → Comes (attempted_at u) r u v → Comes (tries_at (i + 1) t) (counted i r) t v
+  pub turns_more : (r : Result (Unit {0}) Refusal) → Comes (tries_at i t) (so_far i) t u → Comes (attempted_at u) r u v → Comes (tries_at (i + 1) t) (counted i r) t v
   unfolding tries
   turns_more r h k =
       let L = tries_at i t in
@@ -46,7 +46,7 @@ module _ (i : ℕ) (t u v : Moment) where
 further_ends : (try : State → State × Result (Unit {0}) Refusal) (s : State) (a : Answer) (e : Refusal) → a.refusal ≡ Some e → further try s a.completed a.refusal ≡ (s, a)
 further_ends try s a e q = ap (further try s a.completed) q ∙ ap (λ c. (s, record { completed = a.completed; refusal = c })) (sym q)
 
-tries_stop : (try : State → State × Result (Unit {0}) Refusal) (j k : ℕ) (s : State) (e : Refusal) → j ≤ k → (tries try j s).1.refusal ≡ Some e → tries try k s ≡ tries try j s
+pub tries_stop : (try : State → State × Result (Unit {0}) Refusal) (j k : ℕ) (s : State) (e : Refusal) → j ≤ k → (tries try j s).1.refusal ≡ Some e → tries try k s ≡ tries try j s
 unfolding tries
 tries_stop try j zero s e l h = let z : j ≡ 0 = omega arith in ap (λ i. tries try i s) (sym z)
 tries_stop try j (suc k) s e l h = elim (cases_lt j (suc k)) [

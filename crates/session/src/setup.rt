@@ -10,7 +10,7 @@ use machine::{Machine, Questions};
 //
 // Why three types, each with its own `machine`: `start` and `close` move a session from one to the next, so that a call
 // out of order does not build. One type with a parameter for the state would have the parameter in every contract.
-#[derive(PartialEq, Eq, Debug, Default, Drop)]
+#[derive(PartialEq, Eq, Debug, Drop)]
 pub struct Setup {
     pub(crate) machine: Machine,
 }
@@ -21,7 +21,9 @@ impl Setup {
     pub fn new() -> Setup
         ensures { result.machine ≡ opened }
     {
-        Setup::default()
+        Setup {
+            machine: Machine::default(),
+        }
     }
 
     // Sets a register.
