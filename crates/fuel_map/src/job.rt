@@ -61,6 +61,7 @@ fn trace_steps<B: Board>(
     Ok(())
 }
 
+// The same, beside sheets of its own.
 pub fn trace<B: Board>(rt: &HostRuntime, board: &mut B, steps: u32) -> io::Result<()> {
     let mut reads = [ReadLine::default(); READS];
     let mut writes = [WriteLine::default(); WRITES];

@@ -1,5 +1,6 @@
 // Reads cases from standard input, one to a line, and writes what each comes to.
-// A case is OPERATION WIDTH DST SRC FLAGS. DST, SRC and FLAGS are hexadecimal; a count and a place are decimal.
+// A case is OPERATION WIDTH DST SRC FLAGS. DST, SRC and FLAGS are hexadecimal; a width, a count and a place are decimal, and a
+// condition may have any width.
 // Of the answer the first word is the number, and the second the flags: CY, OV, S, Z.
 #![tactic(auto)]
 
